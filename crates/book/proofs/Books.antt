@@ -1,0 +1,57 @@
+-- A book's places are sound memory and what it has is valid; two books whose fields are the same are the same.
+use mathlib.Core.Path.{_≡_, toPathP, sym, ap, _∙_}
+use mathlib.Core.Bool.{true}
+use Prim.Native.Nat.{ℕ, _≤_}
+use native.Mathlib.Omega.{arith}
+use lib.ListN.{take, length}
+use denote.Struct.Props.{props}
+use Rattle.std.proofs.shelf.Lists.{length-take-le}
+use Rattle.std.specs.declared.option.Option.{Option}
+use Rattle.std.specs.declared.option.Option.the-variants.{None}
+use Rattle.rising.specs.Lists.{rising, Sound}
+use Rattle.rising.specs.Outcomes.{adding, removing}
+use Rattle.rising.specs.declared.lent.Added.{Added}
+use Rattle.rising.specs.declared.lent.Removed.{Removed}
+use Rattle.book.specs.declared.derivation.Derivation.{Derivation}
+use Rattle.book.specs.declared.refusal.Refusal.{Refusal}
+use Rattle.book.specs.declared.kept.Book.{Book}
+use Rattle.book.specs.Counts.{models}
+use Rattle.book.specs.Order.{by-models}
+use Rattle.book.specs.Refusals.{first, add-refusal, remove-refusal}
+use Rattle.book.specs.Derivations.{unknown, improper, all-proper, Valid}
+use Rattle.book.specs.Books.{standing, count-of, entry-refusal, strike-refusal}
+
+pub same-book : (a b : Book) → a .count ≡ b .count → a .places ≡ b .places → a .len ≡ b .len → a .stale ≡ b .stale → a ≡ b
+same-book a b c p q r =
+    let f : IsProp (b .len ≤ 2048) = search props in
+    let g : IsProp (rising by-models (take (b .len) (b .places)) ≡ true) = search props in
+    let h : IsProp (all-proper (models (b .count)) (take (b .len) (b .places)) ≡ true) = search props in
+    λ i. record {
+      count = c i;
+      places = p i;
+      len = q i;
+      stale = r i;
+      few = toPathP (λ j. q j ≤ 2048) {a = a .few} {b = b .few} (f _ _) i;
+      rises = toPathP (λ j. rising by-models (take (q j) (p j)) ≡ true) {a = a .rises} {b = b .rises} (g _ _) i;
+      proper = toPathP (λ j. all-proper (models (c j)) (take (q j) (p j)) ≡ true) {a = a .proper} {b = b .proper} (h _ _) i;
+    }
+
+pub sound-book : (b : Book) → length (b .places) ≡ 2048 → Sound by-models (b .places) (b .len)
+sound-book b e = let f = b .few in record { fits = omega arith; rises = b .rises }
+
+pub valid-book : (b : Book) → length (b .places) ≡ 2048 → Valid (models (count-of b)) (standing b)
+valid-book b e =
+    let f = b .few in
+    let l = length-take-le (b .len) (b .places) (omega arith) in
+    record { some = b .count .some; most = b .count .most; few = omega arith; rises = b .rises; proper = b .proper }
+
+-- what the ordered list told, of a derivation that is otherwise in order, is what the call is owed
+pub refused-entry : (b : Book) (d : Derivation) (told : Added) → length (b .places) ≡ 2048 → improper (models (count-of b)) d ≡ None → told ≡ adding by-models (standing b) (length (b .places)) d → entry-refusal (models (count-of b)) (standing b) d ≡ add-refusal told
+refused-entry b d told z p e =
+    ap (λ (o : Option Refusal). first o (add-refusal (adding by-models (standing b) 2048 d))) p
+    ∙ ap (λ (m : ℕ). add-refusal (adding by-models (standing b) m d)) (sym z)
+    ∙ ap add-refusal (sym e)
+
+pub refused-strike : (b : Book) (d : Derivation) (told : Removed) → unknown (models (count-of b)) d ≡ None → told ≡ removing by-models (standing b) d → strike-refusal (models (count-of b)) (standing b) d ≡ remove-refusal told
+refused-strike b d told p e =
+    ap (λ (o : Option Refusal). first o (remove-refusal (removing by-models (standing b) d))) p ∙ ap remove-refusal (sym e)

@@ -1,0 +1,6 @@
+pub mod Place
+pub mod Search
+pub mod Moves
+pub mod Edits
+pub mod Keys
+pub mod Told
