@@ -3,9 +3,8 @@ use mathlib.Core.Path.{_≡_, toPathP, sym, ap, _∙_}
 use mathlib.Core.Bool.{true}
 use Prim.Native.Nat.{ℕ, _≤_}
 use native.Mathlib.Omega.{arith}
-use lib.ListN.{take, length}
+use lib.ListN.{take, length, length-take}
 use denote.Struct.Props.{props}
-use Rattle.std.proofs.shelf.Lists.{length-take-le}
 use Rattle.std.specs.declared.option.Option.{Option}
 use Rattle.std.specs.declared.option.Option.the-variants.{None}
 use Rattle.rising.specs.Lists.{rising, Sound}
@@ -39,10 +38,10 @@ same-book a b c p q r =
 pub sound-book : (b : Book) → length (b .places) ≡ 2048 → Sound by-models (b .places) (b .len)
 sound-book b e = let f = b .few in record { fits = omega arith; rises = b .rises }
 
-pub valid-book : (b : Book) → length (b .places) ≡ 2048 → Valid (models (count-of b)) (standing b)
-valid-book b e =
+pub valid-book : (b : Book) → Valid (models (count-of b)) (standing b)
+valid-book b =
     let f = b .few in
-    let l = length-take-le (b .len) (b .places) (omega arith) in
+    let l = length-take (b .len) (b .places) in
     record { some = b .count .some; most = b .count .most; few = omega arith; rises = b .rises; proper = b .proper }
 
 -- what the ordered list told, of a derivation that is otherwise in order, is what the call is owed

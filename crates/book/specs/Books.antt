@@ -1,7 +1,7 @@
 -- A book by the derivations that stand in it, and what an entry and a strike come to.
 use mathlib.Core.Path.{_≡_}
 use mathlib.Core.Bool.{Bool, true}
-use mathlib.Core.List.{List}
+use mathlib.Core.List.{List, [], _∷_}
 use Prim.Native.Nat.{ℕ}
 use lib.ListN.{take}
 use Rattle.std.specs.declared.option.Option.{Option}
@@ -16,7 +16,7 @@ use Rattle.book.specs.declared.kept.Book.{Book}
 use Rattle.book.specs.declared.refusal.Refusal.{Refusal}
 use Rattle.book.specs.Counts.{models}
 use Rattle.book.specs.Order.{by-models}
-use Rattle.book.specs.Refusals.{first, add-refusal, remove-refusal}
+use Rattle.book.specs.Refusals.{first, unless, add-refusal, remove-refusal}
 use Rattle.book.specs.Derivations.{unknown, improper}
 
 -- the derivations that stand, rising
@@ -36,6 +36,11 @@ entry-refusal n ds d = first (improper n d) (add-refusal (adding by-models ds 20
 -- what a strike is refused with, if with anything: a model, then that the derivation does not stand
 abbrev pub strike-refusal : ℕ → List Derivation → Derivation → Option Refusal
 strike-refusal n ds d = first (unknown n d) (remove-refusal (removing by-models ds d))
+
+-- derivations entered in turn where others stand already: what stands then, or the first refusal
+abbrev pub in-turn : ℕ → List Derivation → List Derivation → Result (List Derivation) Refusal
+in-turn n ds [] = Ok ds
+in-turn n ds (e ∷ es) = unless (entry-refusal n ds e) (in-turn n (insert by-models ds e) es)
 
 -- an entry, by the book before and after
 abbrev pub Enters : Book → Derivation → Result (Unit {0}) Refusal → Book → Type 0

@@ -35,6 +35,11 @@ abbrev pub first : {E : Type 0} → Option E → Option E → Option E
 first None o = o
 first (Some e) o = Some e
 
+-- a refusal, or else what comes next
+abbrev pub unless : {A E : Type 0} → Option E → Result A E → Result A E
+unless None next = next
+unless (Some e) next = Err e
+
 -- a call is stopped by the refusal that it is owed, and by no other
 abbrev pub Answers : {A E : Type 0} → Option E → Result A E → Type 0
 Answers owed (Ok a) = owed ≡ None

@@ -18,7 +18,7 @@ use Rattle.rising.specs.Lists.{rising, Sound, place, stands, pick, insert, del
 use Rattle.rising.specs.Outcomes.{Adds, Removes}
 use Rattle.rising.specs.declared.lent.Added.the-variants.{Added as Done}
 use Rattle.rising.specs.declared.lent.Removed.the-variants.{Removed as Gone}
-use Rattle.rising.proofs.Place.{Rises, BelowEach, below-each-cons, below-each-tail, below-each-head, rises-cons, rises-tail, rises-from-rising, rising-from-rises, stands-within}
+use Rattle.rising.proofs.Place.{Rises, BelowEach, AboveEach, below-each-cons, below-each-tail, below-each-head, rises-cons, rises-tail, rises-from-rising, rising-from-rises, stands-within}
 
 module _ {K : Type 0} (ranks : K → K → Ordering) where
   below-each-insert : (x : K) (xs : List K) (k : K) → BelowEach ranks x xs → ranks x k ≡ Less → BelowEach ranks x (insert ranks xs k)
@@ -56,6 +56,19 @@ module _ {K : Type 0} (ranks : K → K → Ordering) where
   length-delete (x ∷ xs) k =
       elim (ranks x k) as (λ q. pick q (stands ranks xs k) true false ≡ true → suc (length (pick q (x ∷ delete ranks xs k) xs (x ∷ xs))) ≡ suc (length xs))
       [ Less ↦ (λ h. ap suc (length-delete xs k h)) | Equal ↦ (λ h. refl) | Greater ↦ (λ h. absurd (false≢true h)) ]
+
+  -- a key above each of a list goes to its end
+  pub insert-last : (xs : List K) (k : K) → AboveEach ranks xs k → insert ranks xs k ≡ xs ++ k ∷ []
+  insert-last [] k a = refl
+  insert-last (x ∷ xs) k a =
+      let first : ranks x k ≡ Less = a 0 x (omega arith) in
+      rw first (ap (λ (t : List K). x ∷ t) (insert-last xs k (λ j d h. a (suc j) d (omega arith))))
+
+  pub stands-last : (xs : List K) (k : K) → AboveEach ranks xs k → stands ranks xs k ≡ false
+  stands-last [] k a = refl
+  stands-last (x ∷ xs) k a =
+      let first : ranks x k ≡ Less = a 0 x (omega arith) in
+      rw first (stands-last xs k (λ j d h. a (suc j) d (omega arith)))
 
   pub delete-rises : (xs : List K) (k : K) → Rises ranks xs → Rises ranks (delete ranks xs k)
   delete-rises [] k up = up

@@ -1,13 +1,14 @@
 -- Where a key's place lies, by what the key at an index compares as.
 use mathlib.Core.Path.{_≡_, refl, sym, ap, subst, _∙_}
 use mathlib.Core.Bool.{true, false}
-use mathlib.Core.List.{List, [], _∷_}
+use mathlib.Core.List.{List, [], _∷_, _++_}
 use Prim.Native.Nat.{ℕ, zero, suc, _<_, _≤_, _+_}
 use native.Mathlib.Omega.{arith}
-use lib.ListN.{length, getD}
+use lib.ListN.{length, getD, length-append}
 use Rattle.std.specs.declared.cmp.Ordering.{Ordering}
 use Rattle.std.specs.declared.cmp.Ordering.the-variants.{Less, Equal, Greater}
 use Rattle.std.specs.Orderings.{isLt}
+use Rattle.std.proofs.shelf.Lists.{getD-append-left, getD-at}
 use Rattle.std.proofs.shelf.Tests.{and-parts}
 use Rattle.rising.specs.Order.{Order}
 use Rattle.rising.specs.Lists.{below-first, rising, place, stands, pick}
@@ -43,6 +44,14 @@ module _ {K : Type 0} (ranks : K → K → Ordering) where
 
   pub rises-tail : (x : K) (xs : List K) → Rises (x ∷ xs) → Rises xs
   rises-tail x xs up i j d l h = up (suc i) (suc j) d (omega arith) (omega arith)
+
+  -- x is above each of ys
+  abbrev pub AboveEach : List K → K → Type 0
+  AboveEach ys x = (j : ℕ) (d : K) → j < length ys → ranks (getD ys j d) x ≡ Less
+
+  pub above-each-last : (ys : List K) (x : K) (zs : List K) → Rises (ys ++ x ∷ zs) → AboveEach ys x
+  above-each-last ys x zs up j d h =
+      ap (λ (y : K). ranks y x) (sym (getD-append-left ys (x ∷ zs) d j h)) ∙ ap (ranks (getD (ys ++ x ∷ zs) j d)) (sym (getD-at ys x zs d (length ys) refl)) ∙ up j (length ys) d h (omega (arith, length-append ys (x ∷ zs)))
 
   pub place-within : (xs : List K) (k : K) → place ranks xs k ≤ length xs
   place-within [] k = omega arith

@@ -1,0 +1,9 @@
+pub mod Arrays
+pub mod Placing
+pub mod Columns
+pub mod Table
+pub mod Files
+pub mod Walking
+pub mod Places
+pub mod Entering
+pub mod Written
