@@ -52,6 +52,6 @@ taken-below n (x ∷ xs) u v a h =
           let k = and-parts (known n x) _ (parts .0) in
           let b = and-parts (ltb (x .from) n) (ltb (x .to) n) (k .0) in
           (omega (arith, eqb-true (x .from) u (p .0), ltb-true (x .from) n (b .0)), omega (arith, eqb-true (x .to) v (p .1), ltb-true (x .to) n (b .1)))
-        )
+          )
       | inr t ↦ taken-below n xs u v (parts .1) t
     ]

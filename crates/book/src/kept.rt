@@ -10,7 +10,8 @@ ghost use Rattle.book.specs.Derivations.{all-proper};
 use crate::count::Count;
 use crate::derivation::Derivation;
 
-pub mod calls;
+pub mod changing;
+pub mod reading;
 
 /// At most 2,048 derivations between the models of a count: the first `len` of the places, rising.
 /// The book is stale until it is marked as indexed, and again after each change.

@@ -8,8 +8,15 @@ use Rattle.std.specs.declared.result.Result.{Result}
 use Rattle.std.specs.declared.result.Result.the-variants.{Ok, Err}
 use Rattle.bookfile.specs.declared.copying.CopyRefusal.{CopyRefusal}
 use Rattle.bookfile.specs.declared.copying.CopyRefusal.the-variants.{Check, Enter, Write}
+use Rattle.book.specs.Refusals.{number as book-number}
+use Rattle.bookfile.specs.Refusals.{number, write-number}
 use Rattle.bookfile.specs.Placing.{placed}
 use Rattle.bookfile.specs.Table.{file-refusal}
+
+abbrev pub copy-number : CopyRefusal → ℕ
+copy-number (Check e) = number e
+copy-number (Enter e) = book-number e
+copy-number (Write e) = write-number e
 
 -- an accepted file is copied byte for byte, if there is room for it; none of its derivations is refused
 abbrev pub Copies : List ℕ → List ℕ → Result ℕ CopyRefusal → List ℕ → Type 0

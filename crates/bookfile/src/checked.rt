@@ -1,5 +1,6 @@
 //! A checked book file.
 pub mod checking;
+pub mod entering;
 pub mod reading;
 
 /// A book file that was checked. It borrows the bytes of the two arrays: all first models, and all second models.

@@ -1,7 +1,7 @@
 //! The whole way round: a file checked, its derivations entered in turn into a new book, and that book written.
 ghost use mathlib.Core.Path.{_≡_};
 ghost use Rattle.bookfile.specs.declared.copying.CopyRefusal.the-variants.{Check, Enter, Write};
-ghost use Rattle.bookfile.specs.Copying.{Copies};
+ghost use Rattle.bookfile.specs.Copying.{copy-number, Copies};
 use crate::checked::checking::check;
 use crate::refusal::FileRefusal;
 use crate::refusal::WriteRefusal;
@@ -14,6 +14,19 @@ pub enum CopyRefusal {
     Check(FileRefusal),
     Enter(Refusal),
     Write(WriteRefusal),
+}
+
+impl CopyRefusal {
+    /// The number that the refusal is told by.
+    pub fn number(self) -> u8
+        ensures { λ r. ⌜ r ≡ copy-number self ⌝ }
+    {
+        match self {
+            CopyRefusal::Check(refusal) => refusal.number(),
+            CopyRefusal::Enter(refusal) => refusal.number(),
+            CopyRefusal::Write(refusal) => refusal.number(),
+        }
+    }
 }
 
 pub impl From<FileRefusal> for CopyRefusal as CheckIntoCopy {

@@ -12,9 +12,9 @@ use crate::words::put_word;
 use book::derivation::Derivation;
 use book::kept::Book;
 
-/// One of the two models of a derivation.
+// One of the two models of a derivation.
 #[derive(Clone, Copy)]
-pub enum Side {
+enum Side {
     First,
     Second,
 }

@@ -92,4 +92,3 @@ module _ {K : Type 0} (ranks : K → K → Ordering) where
     stands-is (x ∷ xs) k d =
         (elim (ranks x k) as (λ q. ranks x k ≡ q → pick q (stands ranks xs k) true false ≡ true → getD (x ∷ xs) (pick q (suc (place ranks xs k)) 0 0) d ≡ k)
         [ Less ↦ (λ e h. stands-is xs k d h) | Equal ↦ (λ e h. order .same x k e) | Greater ↦ (λ e h. absurd (false≢true h)) ]) refl
-

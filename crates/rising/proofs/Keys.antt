@@ -59,9 +59,9 @@ module _ {K : Type 0} (ranks : K → K → Ordering) (order : Order ranks) where
       elim (has-split y ys x (m x .0 (has-here x xs x refl))) [
         | inl e ↦ sym e
         | inr h ↦ elim (has-split x xs y (m y .1 (has-here y ys y refl))) [
-            | inl e ↦ e
-            | inr g ↦ absurd (not-same x x (order .carries x y x (head-below x xs y p g) (head-below y ys x q h)) refl)
-          ]
+          | inl e ↦ e
+          | inr g ↦ absurd (not-same x x (order .carries x y x (head-below x xs y p g) (head-below y ys x q h)) refl)
+        ]
       ]
 
   has-insert : (xs : List K) (k y : K) → (y ≡ k) ⊎ Has xs y → Has (insert ranks xs k) y

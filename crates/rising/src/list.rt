@@ -21,7 +21,7 @@ impl<'a, K: Key> OrderedList<'a, K> {
     pub fn len(&self) -> usize
         ensures { λ r. ⌜ r ≡ now (self .entry) .len ⌝ }
     {
-        self.len
+        self.len // of the list, not of the memory
     }
 
     /// The place of `key`, from 0.

@@ -16,7 +16,11 @@ use rising::key::Key;
 use std::cmp::Ordering;
 
 // Refuses one derivation, behind the one before it.
-fn check_place(count: Count, before: Option<Derivation>, derivation: Derivation) -> Result<(), FileRefusal>
+fn check_place(
+    count: Count,
+    before: Option<Derivation>,
+    derivation: Derivation,
+) -> Result<(), FileRefusal>
     ensures { λ r. ⌜ Answers (place-refusal (models count) before derivation) r ⌝ }
 {
     derivation.check(count)?;

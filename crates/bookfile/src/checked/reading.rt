@@ -2,13 +2,10 @@
 ghost use mathlib.Core.Path.{_≡_};
 ghost use lib.ListN.{length};
 ghost use Rattle.std.specs.shelf.Maps.{nth};
-ghost use Rattle.bookfile.specs.Checked.{count-shown, shown, Enters, EntersAll};
+ghost use Rattle.bookfile.specs.Checked.{count-shown, shown};
 use crate::checked::BookFile;
 use crate::words::number;
-use book::count::Count;
 use book::derivation::Derivation;
-use book::kept::Book;
-use book::refusal::Refusal;
 
 impl BookFile<'_> {
     /// The count of models.
@@ -38,20 +35,5 @@ impl BookFile<'_> {
         let from = number(firsts[low], firsts[low + 1]);
         let to = number(seconds[low], seconds[low + 1]);
         Some(Derivation { from, to })
-    }
-
-    /// A new book of the count, with the derivations entered in turn. Of a file that was accepted none is refused.
-    pub fn to_book(&self) -> Result<Book, Refusal>
-        ensures enters { λ r. ⌜ Enters (now (self .entry)) r ⌝ }
-        ensures all { λ r. ⌜ EntersAll (now (self .entry)) r ⌝ }
-    {
-        let count = Count::new(self.models)?;
-        let mut book = Book::new(count);
-        let mut place = 0;
-        while let Some(derivation) = self.at(place) {
-            book.enter(derivation)?;
-            place += 1;
-        }
-        Ok(book)
     }
 }

@@ -18,8 +18,7 @@ ghost-self-in-Added c =
     let z : length (b .places) ≡ 2048 = omega arith in
     let a = c .in-Added .ensures tt .adds (sound-book b z) in
     let n : c .len-self .result ≡ suc (b .len) = c .len-self .ensures ∙ c .in-Added .ensures tt .len in
-    let list = ap (λ (m : ℕ). take m (c .add .last .self .keys .now)) n ∙ a .list in
-    (
+    let list = ap (λ (m : ℕ). take m (c .add .last .self .keys .now)) n ∙ a .list in (
       omega (arith, c .in-Added .ensures tt .anywhere .0),
       (
         ap (rising by-models) (ap (λ (m : ℕ). take m (c .add .last .self .keys .now)) n) ∙ a .sound .rises,

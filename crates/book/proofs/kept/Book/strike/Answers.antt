@@ -18,8 +18,7 @@ ghost-self-in-Removed c =
     let few = b .few in
     let a = c .in-Removed .ensures tt .removes (sound-book b z) in
     let n : c .len-self .result ≡ pred (b .len) = c .len-self .ensures ∙ c .in-Removed .ensures tt .len in
-    let list = ap (λ (m : ℕ). take m (c .remove .last .self .keys .now)) n ∙ a .list in
-    (
+    let list = ap (λ (m : ℕ). take m (c .remove .last .self .keys .now)) n ∙ a .list in (
       omega arith,
       (
         ap (rising by-models) (ap (λ (m : ℕ). take m (c .remove .last .self .keys .now)) n) ∙ a .sound .rises,

@@ -15,7 +15,7 @@ returns-then-place-firsts c =
     let ys = c .args .self .now .seconds .now in
     let l = length-derivations xs ys in
     let past : length (derivations xs ys) ≤ c .args .place =
-      elim (c .then-place-firsts .came) [ then-place-firsts·by·then-place-firsts w ↦ omega (arith, w .if-place-firsts .taken) | then-place-firsts·by·else-place-firsts·then-place-seconds w ↦ omega (arith, w .if-place-seconds .taken) ] in
+    elim (c .then-place-firsts .came) [ then-place-firsts·by·then-place-firsts w ↦ omega (arith, w .if-place-firsts .taken) | then-place-firsts·by·else-place-firsts·then-place-seconds w ↦ omega (arith, w .if-place-seconds .taken) ] in
     sym (nth-past (derivations xs ys) (c .args .place) past)
 
 pub returns : need.returns

@@ -1,17 +1,13 @@
-//! The calls of a book.
+//! Making a book, entering, striking, and the mark of staleness.
 ghost use mathlib.Core.Path.{_≡_};
 ghost use mathlib.Core.Bool.{true, false};
 ghost use mathlib.Core.List.{[]};
-ghost use lib.ListN.{length};
-ghost use Rattle.std.specs.shelf.Maps.{nth};
-ghost use Rattle.book.specs.Derivations.{taken-from};
 ghost use Rattle.book.specs.Books.{standing, count-of, is-stale, Enters, Strikes};
 use crate::count::Count;
 use crate::derivation::Derivation;
 use crate::derivation::DerivationKey;
 use crate::kept::Book;
 use crate::refusal::Refusal;
-use rising::lent;
 use rising::lent::Added;
 use rising::lent::Removed;
 use rising::list::OrderedList;
@@ -29,48 +25,6 @@ impl Book {
             len: 0,
             stale: true,
         }
-    }
-
-    /// The count of models.
-    pub fn count(&self) -> Count
-        ensures { λ r. ⌜ r ≡ count-of (now (self .entry)) ⌝ }
-    {
-        self.count
-    }
-
-    /// How many derivations stand.
-    pub fn len(&self) -> usize
-        ensures { λ r. ⌜ r ≡ length (standing (now (self .entry))) ⌝ }
-    {
-        self.derivations().len()
-    }
-
-    /// Whether the book was changed since it was last marked as indexed, or never was.
-    pub fn stale(&self) -> bool
-        ensures { λ r. ⌜ r ≡ is-stale (now (self .entry)) ⌝ }
-    {
-        self.stale
-    }
-
-    /// The derivations that stand, rising.
-    pub fn derivations(&self) -> &[Derivation]
-        ensures { λ r. ⌜ now r ≡ standing (now (self .entry)) ⌝ }
-    {
-        &self.places[0..self.len]
-    }
-
-    /// The derivation at a place from 0, or none behind the last.
-    pub fn at(&self, place: usize) -> Option<Derivation>
-        ensures { λ r. ⌜ r ≡ nth (standing (now (self .entry))) place ⌝ }
-    {
-        self.derivations().get(place).copied()
-    }
-
-    /// Whether `derivation` stands.
-    pub fn has(&self, derivation: Derivation) -> bool
-        ensures { λ r. ⌜ r ≡ taken-from (standing (now (self .entry))) (derivation .from) (derivation .to) ⌝ }
-    {
-        lent::find(self.derivations(), derivation).is_some()
     }
 
     /// Enters `derivation`.
