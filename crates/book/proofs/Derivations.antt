@@ -11,11 +11,10 @@ use Rattle.std.specs.declared.option.Option.the-variants.{Some, None}
 use Rattle.std.proofs.shelf.Tests.{and-parts, and-from}
 use Rattle.rising.specs.Lists.{pick, insert, delete}
 use Rattle.book.specs.declared.derivation.Derivation.{Derivation}
-use Rattle.book.specs.declared.refusal.Refusal.{Refusal}
 use Rattle.book.specs.declared.refusal.Refusal.the-variants.{NoSuchModel, FromItself}
 use Rattle.book.specs.Refusals.{first}
 use Rattle.book.specs.Order.{by-models}
-use Rattle.book.specs.Derivations.{known, proper, all-proper, unknown, improper}
+use Rattle.book.specs.Derivations.{known, proper, all-proper, improper}
 
 pub some-none : {E : Type 0} (e : E) → _≡_ {A = Option E} (Some e) None → ⊥
 some-none e p = let z : _≡_ {A = ℕ} 0 1 = cc in omega arith

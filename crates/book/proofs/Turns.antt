@@ -2,25 +2,24 @@
 use mathlib.Core.Path.{_≡_, refl, sym, ap, _∙_}
 use mathlib.Core.Bool.{true, false}
 use mathlib.Core.List.{List, [], _∷_, _++_, append-assoc, append-nil}
-use Prim.Native.Nat.{ℕ, suc, _<_, _≤_, _+_}
+use Prim.Native.Nat.{ℕ, _<_, _≤_, _+_}
 use native.Mathlib.Omega.{arith}
 use borrow.Author.Needs.{needs}
 use lib.ListN.{length, length-append}
 use Rattle.std.specs.declared.option.Option.{Option}
-use Rattle.std.specs.declared.option.Option.the-variants.{Some, None}
-use Rattle.std.specs.declared.result.Result.{Result}
-use Rattle.std.specs.declared.result.Result.the-variants.{Ok, Err}
+use Rattle.std.specs.declared.option.Option.the-variants.{None}
+use Rattle.std.specs.declared.result.Result.the-variants.{Ok}
 use Rattle.std.proofs.shelf.Tests.{and-parts, lt-ltb}
 use Rattle.rising.specs.Lists.{rising, insert, stands}
 use Rattle.rising.specs.Outcomes.{adding}
 use Rattle.rising.proofs.Edits.{insert-last, stands-last}
-use Rattle.rising.proofs.Place.{Rises, AboveEach, rises-from-rising, above-each-last}
+use Rattle.rising.proofs.Place.{rises-from-rising, above-each-last}
 use Rattle.rising.specs.Order.{Order}
 use Rattle.book.specs.declared.derivation.Derivation.{Derivation}
 use Rattle.book.specs.declared.refusal.Refusal.{Refusal}
 use Rattle.book.specs.Order.{by-models}
 use Rattle.book.specs.Refusals.{first, unless, add-refusal}
-use Rattle.book.specs.Derivations.{proper, all-proper, improper, Valid}
+use Rattle.book.specs.Derivations.{proper, all-proper, Valid}
 use Rattle.book.specs.Books.{entry-refusal, in-turn}
 use Rattle.book.proofs.Derivations.{proper-to}
 

@@ -1,7 +1,7 @@
 -- Accepted are exactly the files of valid books, and a file is that of one book alone.
 use mathlib.Core.Path.{_≡_, refl, sym, ap, subst, _∙_}
 use mathlib.Core.Bool.{Bool, true, false, cond, _||_}
-use mathlib.Core.List.{List, [], _∷_, _++_, map}
+use mathlib.Core.List.{List, _∷_, _++_, map}
 use Prim.Native.Nat.{ℕ, suc, _+_, _*_, _/_, _%_, _<_, _≤_}
 use native.Mathlib.Omega.{arith}
 use lib.Dec.{eqb, ltb}
@@ -18,7 +18,7 @@ use Rattle.book.specs.declared.derivation.Derivation.{Derivation}
 use Rattle.book.specs.declared.refusal.Refusal.{Refusal}
 use Rattle.book.specs.declared.refusal.Refusal.the-variants.{CountOutOfRange}
 use Rattle.book.specs.Counts.{count-refusal}
-use Rattle.book.specs.Refusals.{first, Answers}
+use Rattle.book.specs.Refusals.{Answers}
 use Rattle.book.specs.Derivations.{Valid}
 use Rattle.book.proofs.Derivations.{some-none}
 use Rattle.bookfile.specs.declared.checked.BookFile.{BookFile}

@@ -5,7 +5,7 @@ use Prim.Native.Nat.{ℕ, _+_, _-_, _<_, _≤_}
 use native.Mathlib.Omega.{arith}
 use native.Mathlib.Numerals.{add-one}
 use lib.ListN.{length, take, drop, set}
-use Rattle.std.proofs.shelf.Lists.{length-take-le, set-append-right, drop-more, drop-set, length-push, take-append-drop, drop-at, set-split, length-append, length-drop, take-at, drop-drop}
+use Rattle.std.proofs.shelf.Lists.{length-take-le, set-append-right, drop-more, length-push, take-append-drop, drop-at, set-split, length-append, length-drop, take-at, drop-drop}
 use Rattle.bookfile.specs.Placing.{placed}
 
 -- one more byte behind a text that was placed

@@ -1,11 +1,11 @@
 -- A whole file written: the two sizes, and then the two columns; and what is written reads back.
-use mathlib.Core.Path.{_≡_, refl, sym, ap, _∙_}
-use mathlib.Core.List.{List, [], _∷_, _++_}
+use mathlib.Core.Path.{_≡_, sym, ap, _∙_}
+use mathlib.Core.List.{List, [], _∷_}
 use Prim.Native.Nat.{ℕ, _+_, _*_, _≤_}
 use native.Mathlib.Omega.{arith}
 use lib.ListN.{length, take, drop}
 use Rattle.std.specs.declared.result.Result.the-variants.{Ok}
-use Rattle.std.proofs.shelf.Lists.{take-at, length-append}
+use Rattle.std.proofs.shelf.Lists.{take-at}
 use Rattle.book.specs.declared.derivation.Derivation.{Derivation}
 use Rattle.book.specs.Derivations.{Valid}
 use Rattle.bookfile.specs.declared.writing.Side.the-variants.{First, Second}

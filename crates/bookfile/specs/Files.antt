@@ -1,7 +1,7 @@
 -- The bytes of a book file, and the derivations that they are the bytes of.
 use mathlib.Core.List.{List, [], _∷_, _++_, map}
 use Prim.Native.Nat.{ℕ, _+_, _*_, _/_, _%_}
-use lib.ListN.{length, take, drop}
+use lib.ListN.{length}
 use Rattle.book.specs.declared.derivation.Derivation.{Derivation}
 use Rattle.bookfile.specs.declared.writing.Side.{Side}
 use Rattle.bookfile.specs.declared.writing.Side.the-variants.{First, Second}

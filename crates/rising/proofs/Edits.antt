@@ -1,24 +1,18 @@
 -- A key insert into a rising list, or taken out of it: where it goes, and that the list rises after.
-use mathlib.Core.Path.{_≡_, refl, sym, ap, subst, _∙_}
-use mathlib.Core.Bool.{Bool, true, false, cond}
+use mathlib.Core.Path.{_≡_, refl, ap, _∙_}
+use mathlib.Core.Bool.{true, false}
 use mathlib.Core.List.{List, [], _∷_, _++_}
-use Prim.Native.Nat.{ℕ, zero, suc, pred, _<_, _≤_, _+_, _-_}
+use Prim.Native.Nat.{suc, _+_, _-_}
 use native.Mathlib.Omega.{arith}
-use lib.ListN.{length, take, drop, getD, length-append, length-drop}
+use lib.ListN.{length, getD}
 use Rattle.std.specs.declared.cmp.Ordering.{Ordering}
 use Rattle.std.specs.declared.cmp.Ordering.the-variants.{Less, Equal, Greater}
-use Rattle.std.specs.declared.result.Result.{Result}
-use Rattle.std.specs.declared.result.Result.the-variants.{Ok, Err}
 use Rattle.std.specs.Orderings.{reversed}
 use Rattle.std.specs.Holes.{inserted, removed}
-use Rattle.std.proofs.shelf.Lists.{take-at, length-take-le}
 use Rattle.std.proofs.shelf.Tests.{true≢false, false≢true}
 use Rattle.rising.specs.Order.{Order}
-use Rattle.rising.specs.Lists.{rising, Sound, place, stands, pick, insert, delete, sought}
-use Rattle.rising.specs.Outcomes.{Adds, Removes}
-use Rattle.rising.specs.declared.lent.Added.the-variants.{Added as Done}
-use Rattle.rising.specs.declared.lent.Removed.the-variants.{Removed as Gone}
-use Rattle.rising.proofs.Place.{Rises, BelowEach, AboveEach, below-each-cons, below-each-tail, below-each-head, rises-cons, rises-tail, rises-from-rising, rising-from-rises, stands-within}
+use Rattle.rising.specs.Lists.{rising, place, stands, pick, insert, delete, sought}
+use Rattle.rising.proofs.Place.{Rises, BelowEach, AboveEach, below-each-cons, below-each-tail, below-each-head, rises-cons, rises-tail}
 
 module _ {K : Type 0} (ranks : K → K → Ordering) where
   below-each-insert : (x : K) (xs : List K) (k : K) → BelowEach ranks x xs → ranks x k ≡ Less → BelowEach ranks x (insert ranks xs k)

@@ -11,7 +11,7 @@ use Rattle.std.specs.Orderings.{isLt}
 use Rattle.std.proofs.shelf.Lists.{getD-append-left, getD-at}
 use Rattle.std.proofs.shelf.Tests.{and-parts}
 use Rattle.rising.specs.Order.{Order}
-use Rattle.rising.specs.Lists.{below-first, rising, place, stands, pick}
+use Rattle.rising.specs.Lists.{rising, place, stands, pick}
 
 is-less : (o : Ordering) → isLt o ≡ true → o ≡ Less
 is-less Less h = refl

@@ -1,8 +1,8 @@
 -- The halving search ends within the list, and in a rising list it finds where a key stands or would go.
-use mathlib.Core.Path.{_≡_, refl, sym, ap, subst, _∙_}
+use mathlib.Core.Path.{_≡_, refl, sym, ap, _∙_}
 use mathlib.Core.Bool.{Bool, true, false, cond}
 use mathlib.Core.List.{List}
-use Prim.Native.Nat.{ℕ, zero, suc, _<_, _≤_, _+_, _-_, _/_}
+use Prim.Native.Nat.{ℕ, zero, suc, _<_, _≤_, _+_, _-_}
 use native.Mathlib.Omega.{arith}
 use lib.ListN.{length, getD}
 use lib.Dec.{ltb}
@@ -15,7 +15,7 @@ use Rattle.std.proofs.shelf.Tests.{ltb-true, ltb-false, lt-ltb, le-ltb}
 use Rattle.rising.specs.Order.{Order}
 use Rattle.rising.specs.Lists.{rising, place, stands, pick, sought}
 use Rattle.rising.specs.Halving.{middle, halve, halving}
-use Rattle.rising.proofs.Place.{Rises, place-within, stands-within, above-place, below-place, at-place, rises-from-rising}
+use Rattle.rising.proofs.Place.{Rises, place-within, stands-within, above-place, below-place, at-place}
 
 -- an end of the search, as `sought` has it
 found : (b : Bool) (i at : ℕ) → b ≡ true → at ≡ i → _≡_ {A = Result ℕ ℕ} (Ok i) (cond b (Ok at) (Err at))

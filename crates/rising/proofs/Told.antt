@@ -4,17 +4,15 @@ use mathlib.Core.Bool.{Bool, true, false, cond}
 use mathlib.Core.List.{List, _++_}
 use Prim.Native.Nat.{ℕ, suc, pred, _<_, _≤_, _-_}
 use native.Mathlib.Omega.{arith}
-use lib.ListN.{length, take, drop, getD, length-append, length-drop}
-use lib.Dec.{ltb}
+use lib.ListN.{length, take, drop, length-append, length-drop}
 use Rattle.std.specs.Holes.{inserted, removed}
 use Rattle.std.specs.Results.{isOk, okPart}
 use Rattle.std.specs.declared.cmp.Ordering.{Ordering}
 use Rattle.std.specs.declared.option.Option.{Option}
-use Rattle.std.specs.declared.option.Option.the-variants.{Some, None}
 use Rattle.std.specs.declared.result.Result.{Result}
 use Rattle.std.specs.declared.result.Result.the-variants.{Ok, Err}
 use Rattle.std.proofs.shelf.Lists.{take-at, length-take-le}
-use Rattle.std.proofs.shelf.Tests.{true≢false, false≢true, lt-ltb, le-ltb, both-ways}
+use Rattle.std.proofs.shelf.Tests.{lt-ltb, le-ltb, both-ways}
 use Rattle.rising.specs.declared.lent.Added.{Added}
 use Rattle.rising.specs.declared.lent.Added.the-variants.{Added as Done, StandsAlready, Full}
 use Rattle.rising.specs.declared.lent.Removed.{Removed}

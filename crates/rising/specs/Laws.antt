@@ -6,9 +6,8 @@ use mathlib.Core.Logic.{_⊎_}
 use Rattle.std.specs.Orderings.{Decides}
 use Rattle.std.specs.shelf.Lists.{Has}
 use Rattle.std.specs.declared.cmp.Ordering.{Ordering}
-use Rattle.rising.specs.Lists.{rising, stands, insert, delete}
+use Rattle.rising.specs.Lists.{rising, stands, insert, delete, sought}
 use Rattle.rising.specs.Halving.{halving}
-use Rattle.rising.specs.Lists.{sought}
 
 -- each says what the other says
 abbrev pub Iff : Type 0 → Type 0 → Type 0

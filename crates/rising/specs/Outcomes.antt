@@ -1,6 +1,6 @@
 -- What finding, adding and removing tell, and what the memory holds then.
 use mathlib.Core.Path.{_≡_}
-use mathlib.Core.Bool.{Bool, true, false, cond}
+use mathlib.Core.Bool.{true, false, cond}
 use mathlib.Core.List.{List, _++_}
 use Prim.Native.Nat.{ℕ, suc, pred, _<_, _≤_}
 use lib.Dec.{ltb, leb}

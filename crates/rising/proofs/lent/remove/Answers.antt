@@ -1,4 +1,4 @@
-use mathlib.Core.Path.{refl, sym, ap}
+use mathlib.Core.Path.{refl, ap}
 use native.Mathlib.Omega.{arith}
 use Rattle.std.specs.Results.{isOk}
 use Rattle.rising.specs.Outcomes.{RemovesAnywhere}

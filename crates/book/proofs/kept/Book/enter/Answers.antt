@@ -1,30 +1,16 @@
-use mathlib.Core.Path.{_≡_, refl, ap, _∙_}
-use Prim.Native.Nat.{ℕ, suc}
+use mathlib.Core.Path.{_≡_, refl, _∙_}
 use native.Mathlib.Omega.{arith}
-use lib.ListN.{length, take}
-use Rattle.rising.specs.Lists.{rising}
+use lib.ListN.{length}
 use Rattle.rising.specs.declared.lent.Added.the-variants.{StandsAlready, Full}
-use Rattle.book.specs.Counts.{models}
-use Rattle.book.specs.Order.{by-models}
-use Rattle.book.specs.Derivations.{all-proper}
-use Rattle.book.proofs.Derivations.{proper-from, all-proper-insert}
-use Rattle.book.proofs.Books.{same-book, sound-book, refused-entry}
+use Rattle.book.proofs.Books.{same-book, sound-book, refused-entry, entered}
 use Rattle.book.proofs.kept.Book.enter.Needs as need
 
 pub ghost-self-in-Added : need.ghost-self-in-Added
 ghost-self-in-Added c =
     let b = c .args .self .now in
-    let d = c .args .derivation in
     let z : length (b .places) ≡ 2048 = omega arith in
-    let a = c .in-Added .ensures tt .adds (sound-book b z) in
-    let n : c .len-self .result ≡ suc (b .len) = c .len-self .ensures ∙ c .in-Added .ensures tt .len in
-    let list = ap (λ (m : ℕ). take m (c .add .last .self .keys .now)) n ∙ a .list in (
-      omega (arith, c .in-Added .ensures tt .anywhere .0),
-      (
-        ap (rising by-models) (ap (λ (m : ℕ). take m (c .add .last .self .keys .now)) n) ∙ a .sound .rises,
-        (ap (all-proper (models (b .count))) list ∙ all-proper-insert (models (b .count)) (take (b .len) (b .places)) d (proper-from (models (b .count)) d (c .in-Continue-check .ensures tt)) (b .proper), tt),
-      ),
-    )
+    let told = c .in-Added .ensures tt in
+    entered b (c .args .derivation) (c .add .last .self .keys .now) (c .len-self .result) z (told .anywhere .0) (c .in-Continue-check .ensures tt) (c .len-self .ensures ∙ told .len) (told .adds (sound-book b z))
 
 pub returns-in-StandsAlready : need.returns-in-StandsAlready
 returns-in-StandsAlready c =

@@ -1,30 +1,16 @@
-use mathlib.Core.Path.{_≡_, refl, ap, _∙_}
-use Prim.Native.Nat.{ℕ, pred}
+use mathlib.Core.Path.{_≡_, refl, _∙_}
 use native.Mathlib.Omega.{arith}
-use lib.ListN.{length, take}
-use Rattle.rising.specs.Lists.{rising}
+use lib.ListN.{length}
 use Rattle.rising.specs.declared.lent.Removed.the-variants.{NotThere}
-use Rattle.book.specs.Counts.{models}
-use Rattle.book.specs.Order.{by-models}
-use Rattle.book.specs.Derivations.{all-proper}
-use Rattle.book.proofs.Derivations.{all-proper-delete}
-use Rattle.book.proofs.Books.{same-book, sound-book, refused-strike}
+use Rattle.book.proofs.Books.{same-book, sound-book, refused-strike, struck}
 use Rattle.book.proofs.kept.Book.strike.Needs as need
 
 pub ghost-self-in-Removed : need.ghost-self-in-Removed
 ghost-self-in-Removed c =
     let b = c .args .self .now in
     let z : length (b .places) ≡ 2048 = omega arith in
-    let few = b .few in
-    let a = c .in-Removed .ensures tt .removes (sound-book b z) in
-    let n : c .len-self .result ≡ pred (b .len) = c .len-self .ensures ∙ c .in-Removed .ensures tt .len in
-    let list = ap (λ (m : ℕ). take m (c .remove .last .self .keys .now)) n ∙ a .list in (
-      omega arith,
-      (
-        ap (rising by-models) (ap (λ (m : ℕ). take m (c .remove .last .self .keys .now)) n) ∙ a .sound .rises,
-        (ap (all-proper (models (b .count))) list ∙ all-proper-delete (models (b .count)) (take (b .len) (b .places)) (c .args .derivation) (b .proper), tt),
-      ),
-    )
+    let told = c .in-Removed .ensures tt in
+    struck b (c .args .derivation) (c .remove .last .self .keys .now) (c .len-self .result) (c .len-self .ensures ∙ told .len) (told .removes (sound-book b z))
 
 pub returns-in-NotThere : need.returns-in-NotThere
 returns-in-NotThere c =
