@@ -42,7 +42,7 @@ impl Book {
             Added::Full => Err(Refusal::BookFull),
             Added::Added => {
                 self.len = list.len();
-                self.stale = true;
+                self.stale = true; // an index does not know it yet
                 Ok(())
             }
         }
@@ -62,7 +62,7 @@ impl Book {
             Removed::NotThere => Err(Refusal::DoesNotStand),
             Removed::Removed => {
                 self.len = list.len();
-                self.stale = true;
+                self.stale = true; // an index still knows it
                 Ok(())
             }
         }
