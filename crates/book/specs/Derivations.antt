@@ -1,12 +1,13 @@
 -- Which derivations a book of n models can have, and what a list of them says of who was taken from whom.
 use mathlib.Core.Path.{_≡_}
-use mathlib.Core.Bool.{Bool, true, false, cond, not, _&&_, _||_}
-use mathlib.Core.List.{List, [], _∷_}
+use mathlib.Core.Bool.{Bool, true, cond, not, _&&_}
+use mathlib.Core.List.{List, [], _∷_, map}
 use Prim.Native.Nat.{ℕ, _≤_}
 use lib.Dec.{ltb, eqb}
 use lib.ListN.{length}
 use Rattle.std.specs.declared.option.Option.{Option}
 use Rattle.std.specs.declared.option.Option.the-variants.{Some, None}
+use Rattle.lineage.specs.Book.{among}
 use Rattle.rising.specs.Lists.{rising}
 use Rattle.book.specs.declared.derivation.Derivation.{Derivation}
 use Rattle.book.specs.declared.refusal.Refusal.{Refusal}
@@ -43,5 +44,4 @@ pub record Valid (n : ℕ) (ds : List Derivation) : Type 0 where
 
 -- the test whether v was taken from u
 abbrev pub taken-from : List Derivation → ℕ → ℕ → Bool
-taken-from [] u v = false
-taken-from (d ∷ ds) u v = (eqb (d .from) u && eqb (d .to) v) || taken-from ds u v
+taken-from ds = among (map (λ d. (d .from, d .to)) ds)
