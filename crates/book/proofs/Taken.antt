@@ -1,7 +1,7 @@
 -- The test whether v was taken from u: what it says of a list of derivations, and that it relates only models below the count.
 use mathlib.Core.Path.{_≡_, sym, ap}
 use mathlib.Core.Bool.{true, _&&_}
-use mathlib.Core.List.{List, [], _∷_}
+use mathlib.Core.List.{List, [], _∷_, map}
 use mathlib.Core.Logic.{inl, inr}
 use Prim.Native.Nat.{ℕ, zero, suc, _<_}
 use native.Mathlib.Omega.{arith}
@@ -12,9 +12,13 @@ use Rattle.std.specs.shelf.Lists.{Has}
 use Rattle.std.specs.declared.option.Option.{Option}
 use Rattle.std.specs.declared.option.Option.the-variants.{Some, None}
 use Rattle.std.proofs.shelf.Tests.{and-parts, and-from, or-cases, or-left, or-right, eqb-true, eq-eqb, ltb-true, cases-bool}
+use Rattle.std.proofs.shelf.Lists.{length-map}
+use Rattle.lineage.specs.Finite.{Within}
+use Rattle.lineage.specs.Book.{surplus}
+use Rattle.lineage.proofs.Few.{surplus-is-below}
 use Rattle.rising.specs.Outcomes.{Finds}
 use Rattle.book.specs.declared.derivation.Derivation.{Derivation}
-use Rattle.book.specs.Derivations.{known, proper, all-proper, taken-from}
+use Rattle.book.specs.Derivations.{known, proper, all-proper, Valid, taken-from}
 
 same-derivation : (d e : Derivation) → d .from ≡ e .from → d .to ≡ e .to → d ≡ e
 same-derivation d e p q = λ i. record { from = p i; to = q i }
@@ -55,3 +59,15 @@ taken-below n (x ∷ xs) u v a h =
           )
       | inr t ↦ taken-below n xs u v (parts .1) t
     ]
+
+-- a valid book relates only models below its count, and its surplus is below 2,048
+pub valid-within : (n : ℕ) (ds : List Derivation) → Valid n ds → Within n (taken-from ds)
+valid-within n ds v u w h = taken-below n ds u w (v .proper) h
+
+pub valid-surplus : (n : ℕ) (ds : List Derivation) → Valid n ds → surplus n (taken-from ds) < 2048
+valid-surplus n ds v =
+    let ends : Derivation → ℕ × ℕ = λ d. (d .from, d .to) in
+    let pairs : List (ℕ × ℕ) = map ends ds in
+    let few = v .few in
+    let l : length pairs ≡ length ds = length-map ds ends in
+    surplus-is-below n pairs (valid-within n ds v) .below-2048 (omega arith)
