@@ -1,13 +1,14 @@
 -- What a turn by one of a part of a list leaves, as a key that is inserted or removed.
-use mathlib.Core.Path.{_≡_, refl, ap, _∙_}
-use mathlib.Core.List.{List, [], _∷_, _++_}
+use mathlib.Core.Path.{_≡_, refl, sym, ap, _∙_}
+use mathlib.Core.List.{List, [], _∷_, _++_, append-assoc}
 use Prim.Native.Nat.{ℕ, zero, suc, pred, _<_, _≤_, _+_, _-_}
 use native.Mathlib.Numerals.{add-one}
 use native.Mathlib.Omega.{arith}
 use lib.ListN.{length, take, drop, set, getD}
 use borrow.Rule.Slice.PartMut.{putMid}
 use Rattle.std.specs.Holes.{inserted, removed}
-use Rattle.std.proofs.shelf.Lists.{take-more-set, drop-at, take-at, length-take-le, drop-set-lt}
+use Rattle.std.proofs.shelf.Lists.{take-more-set, drop-at, take-at, length-take-le, drop-set-lt, drop-more, set-at}
+use Rattle.std.proofs.shelf.Edits.{length-removed}
 
 module _ {X : Type 0} where
   opened-front : (s : List X) (n : ℕ) (x : X) → n < length s → (drop n (take (n + 1) (set s n x)) ++ take n (take (n + 1) (set s n x))) ++ drop (n + 1) (set s n x) ≡ (x ∷ take n s) ++ drop (suc n) s
@@ -25,34 +26,26 @@ module _ {X : Type 0} where
   opened (z ∷ s) (suc at) zero k n x e f h = absurd (omega arith)
   opened (z ∷ s) (suc at) (suc len) k n x e f h = ap (λ (t : List X). z ∷ t) (opened s at len k n x (omega arith) f (omega arith))
 
-  closed-front : (s : List X) (z y : X) (len : ℕ) → len ≤ length s → set ((take len s ++ z ∷ []) ++ drop len s) len y ≡ take len s ++ y ∷ drop len s
-  closed-front [] z y zero h = refl
-  closed-front [] z y (suc len) h = absurd (omega arith)
-  closed-front (w ∷ s) z y zero h = refl
-  closed-front (w ∷ s) z y (suc len) h = ap (λ (t : List X). w ∷ t) (closed-front s z y len (omega arith))
-
-  last-drop : (s : List X) (z d : X) (len : ℕ) → len ≤ length s → take len s ++ getD (z ∷ s) len d ∷ drop len s ≡ take len s ++ drop len (z ∷ s)
-  last-drop s z d zero h = refl
-  last-drop [] z d (suc len) h = absurd (omega arith)
-  last-drop (w ∷ s) z d (suc len) h = ap (λ (t : List X). w ∷ t) (last-drop s w d len (omega arith))
-
-  -- the part from `at` on turned to the left, and the last of it as it was
-  closed : (s : List X) (at len k : ℕ) (d : X) → k + at ≡ len → 0 < k → len ≤ length s → set (putMid at k s (drop 1 (take k (drop at s)) ++ take 1 (take k (drop at s)))) (pred len) (getD s (pred len) d) ≡ removed (take len s) at ++ drop (pred len) s
-  closed [] at len k d e f h = absurd (omega arith)
-  closed (z ∷ s) zero zero k d e f h = absurd (omega arith)
-  closed (z ∷ s) zero (suc len) k d e f h =
+  -- the part from `at` on turned to the left: what stood at `at` comes behind the others
+  pub turned : (s : List X) (at len k : ℕ) (d : X) → k + at ≡ len → 0 < k → len ≤ length s → putMid at k s (drop 1 (take k (drop at s)) ++ take 1 (take k (drop at s))) ≡ removed (take len s) at ++ getD s at d ∷ drop len s
+  turned [] at len k d e f h = absurd (omega arith)
+  turned (z ∷ s) zero zero k d e f h = absurd (omega arith)
+  turned (z ∷ s) zero (suc len) k d e f h =
       let p : k ≡ suc len = omega arith in
-      let l : len ≤ length s = omega arith in
-      rw p (closed-front s z (getD (z ∷ s) len d) len l ∙ last-drop s z d len l)
-  closed (z ∷ s) (suc at) zero k d e f h = absurd (omega arith)
-  closed (z ∷ s) (suc at) (suc zero) k d e f h = absurd (omega arith)
-  closed (z ∷ s) (suc at) (suc (suc len)) k d e f h = ap (λ (t : List X). z ∷ t) (closed s at (suc len) k d (omega arith) f (omega arith))
+      rw p (append-assoc (take len s) (z ∷ []) (drop len s))
+  turned (z ∷ s) (suc at) zero k d e f h = absurd (omega arith)
+  turned (z ∷ s) (suc at) (suc len) k d e f h = ap (λ (t : List X). z ∷ t) (turned s at len k d (omega arith) f (omega arith))
 
-  pub closing : (s part : List X) (at len : ℕ) (last : X) → at < len → len ≤ length s → part ≡ drop 1 (take (len - at) (drop at s)) ++ take 1 (take (len - at) (drop at s)) → last ≡ getD s (len - 1) last → set (putMid at (len - at) s part) (len - 1) last ≡ removed (take len s) at ++ drop (pred len) s
-  closing s part at len last a b e i =
+  -- and the last place with what stood there before
+  pub closed : (s part : List X) (at len : ℕ) (last : X) → at < len → len ≤ length s → part ≡ drop 1 (take (len - at) (drop at s)) ++ take 1 (take (len - at) (drop at s)) → last ≡ getD s (len - 1) last → set (putMid at (len - at) s part) (len - 1) last ≡ removed (take len s) at ++ drop (pred len) s
+  closed s part at len last a b e i =
+      let l : length (take len s) ≡ len = length-take-le len s b in
+      let n : length (removed (take len s) at) ≡ len - 1 = omega (arith, length-removed (take len s) at (omega arith)) in
       let p : len - 1 ≡ pred len = omega arith in
-      let turned : List X = drop 1 (take (len - at) (drop at s)) ++ take 1 (take (len - at) (drop at s)) in
+      let q : len - 1 + 1 ≡ len = omega arith in
       ap (λ (ys : List X). set (putMid at (len - at) s ys) (len - 1) last) e
-      ∙ ap (λ (y : X). set (putMid at (len - at) s turned) (len - 1) y) i
-      ∙ ap (λ (j : ℕ). set (putMid at (len - at) s turned) j (getD s j last)) p
-      ∙ closed s at len (len - at) last (omega arith) (omega arith) b
+      ∙ ap (λ (ys : List X). set ys (len - 1) last) (turned s at len (len - at) last (omega arith) (omega arith) b)
+      ∙ set-at (removed (take len s) at) (getD s at last) (drop len s) last (len - 1) n
+      ∙ ap (λ (ys : List X). removed (take len s) at ++ ys) (
+        ap (λ (y : X). y ∷ drop len s) i ∙ ap (λ (j : ℕ). getD s (len - 1) last ∷ drop j s) (sym q) ∙ sym (drop-more s (len - 1) last (omega arith)) ∙ ap (λ (j : ℕ). drop j s) p
+      )
