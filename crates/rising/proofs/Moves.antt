@@ -47,5 +47,5 @@ module _ {X : Type 0} where
       ∙ ap (λ (ys : List X). set ys (len - 1) last) (turned s at len (len - at) last (omega arith) (omega arith) b)
       ∙ set-at (removed (take len s) at) (getD s at last) (drop len s) last (len - 1) n
       ∙ ap (λ (ys : List X). removed (take len s) at ++ ys) (
-        ap (λ (y : X). y ∷ drop len s) i ∙ ap (λ (j : ℕ). getD s (len - 1) last ∷ drop j s) (sym q) ∙ sym (drop-more s (len - 1) last (omega arith)) ∙ ap (λ (j : ℕ). drop j s) p
+      ap (λ (y : X). y ∷ drop len s) i ∙ ap (λ (j : ℕ). getD s (len - 1) last ∷ drop j s) (sym q) ∙ sym (drop-more s (len - 1) last (omega arith)) ∙ ap (λ (j : ℕ). drop j s) p
       )
