@@ -1,4 +1,4 @@
-//! Prints the book file `book.bin` of the folder that it is started in.
+//! Prints the book file `book.bin` of the folder that it is started in, and how many models descend from each.
 ghost use mathlib.Core.Path.{_≡_};
 ghost use mathlib.Core.List.{_++_};
 ghost use lib.Chars.{codes};
@@ -7,9 +7,13 @@ ghost use Rattle.std.specs.Vec.{made};
 ghost use Rattle.std.specs.Written.{decimal};
 ghost use Rattle.bookfile.specs.Refusals.{number};
 use book::derivation::Derivation;
-use bookfile::checked::BookFile;
+use book::kept::Book;
 use bookfile::checked::checking::check;
 use bookfile::refusal::FileRefusal;
+use index::kind::Index;
+use index::kind::WORK;
+use search::plain::PlainSearch;
+use search::plain::kind::PlainSearchIndex;
 use std::alloc::AllocError;
 use std::alloc::Global;
 use std::fs;
@@ -47,20 +51,67 @@ fn refused(heap: Global, refusal: FileRefusal) -> Result<String, AllocError>
     format!(heap, "book {number}")
 }
 
-fn show(rt: &LibcRuntime, file: &BookFile) -> io::Result<()> {
-    rt.println(sizes(rt.alloc(), file.models(), file.len())?)?;
-    for place in 0..file.len() {
-        if let Some(derivation) = file.at(place) {
-            rt.println(line(rt.alloc(), derivation)?)?;
+// The line of a model from which others descend.
+fn descent(heap: Global, model: u16, many: u16) -> Result<String, AllocError>
+    ensures { λ r. ⌜ made r (λ s. string-bytes s ≡ codes "model " ++ (decimal model ++ (codes ": descendants " ++ decimal many))) ⌝ }
+{
+    format!(heap, "model {model}: descendants {many}")
+}
+
+// The same of a model that stands in a circle.
+fn circle(heap: Global, model: u16, many: u16) -> Result<String, AllocError>
+    ensures { λ r. ⌜ made r (λ s. string-bytes s ≡ codes "model " ++ (decimal model ++ (codes ": descendants " ++ (decimal many ++ codes ", in a circle")))) ⌝ }
+{
+    format!(heap, "model {model}: descendants {many}, in a circle")
+}
+
+// The sizes and the derivations.
+fn show_book(rt: &LibcRuntime, book: &Book) -> io::Result<()> {
+    let heap = rt.alloc();
+    rt.println(sizes(heap, book.count().models(), book.len())?)?;
+    for derivation in book.derivations() {
+        rt.println(line(heap, *derivation)?)?;
+    }
+    Ok(())
+}
+
+// Each model from which others descend.
+fn show_descent(rt: &LibcRuntime, models: u16, search: &PlainSearch) -> io::Result<()> {
+    let heap = rt.alloc();
+    for model in 0..models {
+        let many = search.descendants(model);
+        if many > 0 {
+            let text = if search.in_circle(model) {
+                circle(heap, model, many)?
+            } else {
+                descent(heap, model, many)?
+            };
+            rt.println(text)?;
         }
     }
     Ok(())
 }
 
+fn show(rt: &LibcRuntime, book: &Book) -> io::Result<()> {
+    show_book(rt, book)?;
+    let mut work = vec![in rt.alloc(); 0u16; WORK]?;
+    let mut search = PlainSearch::new();
+    match search.build(book, work.as_mut_slice()) {
+        Ok(()) => show_descent(rt, book.count().models(), &search),
+        Err(fault) => {
+            let number = fault.number();
+            println!(rt, "index {number}")
+        }
+    }
+}
+
 fn main(rt: LibcRuntime) -> io::Result<()> {
     let bytes = read(&rt, "book.bin")?;
     match check(bytes.as_slice()) {
-        Ok(file) => show(&rt, &file),
         Err(refusal) => rt.println(refused(rt.alloc(), refusal)?),
+        Ok(file) => match file.to_book() {
+            Err(refusal) => rt.println(refused(rt.alloc(), FileRefusal::Book(refusal))?),
+            Ok(book) => show(&rt, &book),
+        },
     }
 }

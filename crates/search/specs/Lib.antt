@@ -1,0 +1,4 @@
+pub mod Following
+pub mod Rows
+pub mod Marks
+pub mod Plain
