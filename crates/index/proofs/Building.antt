@@ -1,16 +1,15 @@
 -- For kinds of index: when the rule refuses, and when it does not; and a meaning given by leads-to.
 use mathlib.Core.Path.{_≡_, refl, sym, _∙_}
-use mathlib.Core.Bool.{Bool, true, _&&_}
+use mathlib.Core.Bool.{Bool, _&&_}
 use Prim.Native.Nat.{ℕ, _<_, _≤_}
 use lib.Dec.{ltb}
-use Rattle.std.specs.Orderings.{Decides}
 use Rattle.std.specs.declared.option.Option.the-variants.{Some, None}
 use Rattle.std.proofs.shelf.Tests.{lt-ltb, le-ltb, and-parts, and-from}
-use Rattle.lineage.specs.Finite.{Chain, Within}
+use Rattle.lineage.specs.Finite.{Within}
 use Rattle.lineage.specs.Book.{leads, surplus}
 use Rattle.lineage.proofs.Groups.{leads-sound, leads-whole}
 use Rattle.index.specs.declared.fault.IndexFault.the-variants.{WorkTooShort, TooMuchSurplus}
-use Rattle.index.specs.Meanings.{Meaning, over, tells, Means}
+use Rattle.index.specs.Meanings.{over, Means}
 use Rattle.index.specs.Builds.{rule}
 
 module _ (capacity n : ℕ) (R : ℕ → ℕ → Bool) (k : ℕ) where

@@ -1,6 +1,6 @@
 -- What an index means.
 use mathlib.Core.Path.{_≡_}
-use mathlib.Core.Bool.{Bool, true, false, _&&_}
+use mathlib.Core.Bool.{Bool, false, _&&_}
 use Prim.Native.Nat.{ℕ, _<_}
 use lib.Dec.{ltb}
 use Rattle.std.specs.Orderings.{Decides}

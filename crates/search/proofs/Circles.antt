@@ -1,15 +1,13 @@
 -- A count one place further; and a model stands in a circle exactly if another one, taken from it, leads back.
 use mathlib.Core.Path.{_≡_, refl, sym, ap, _∙_}
-use mathlib.Core.Bool.{Bool, true, false, not, _&&_, _||_}
-use mathlib.Core.List.{List, [], _∷_}
+use mathlib.Core.Bool.{Bool, true, false, not, _&&_}
 use mathlib.Core.Logic.{inl, inr}
-use Prim.Native.Nat.{ℕ, zero, suc, _+_, _<_}
-use native.Mathlib.Omega.{arith}
+use Prim.Native.Nat.{ℕ, _+_, _<_}
 use lib.Dec.{eqb}
 use lib.ListN.{length, getD}
-use Rattle.std.proofs.shelf.Tests.{and-parts, and-from, or-cases, not-true, not-from-false, cases-eq, eqb-true, eqb-false, ne-eqb, eq-eqb, true≢false, lt-ltb, ltb-true, both-ways}
-use Rattle.lineage.specs.Finite.{any, count, Chain, none, step, Within}
-use Rattle.lineage.proofs.Numbers.{bit, count-more, any-hit, any-some, same-tests, refuted}
+use Rattle.std.proofs.shelf.Tests.{and-parts, and-from, not-true, not-from-false, cases-eq, eqb-false, ne-eqb, both-ways}
+use Rattle.lineage.specs.Finite.{count, Chain, none, step}
+use Rattle.lineage.proofs.Numbers.{bit, count-more, any-hit, any-some, refuted}
 use Rattle.lineage.proofs.Reach.{chain-trans}
 use Rattle.search.specs.declared.successors.Successors.{Successors}
 use Rattle.search.specs.Following.{taken, follows, reaches, circles}

@@ -1,5 +1,5 @@
 -- Rows cut from a book's rising derivations say the same of who was taken from whom as the list does.
-use mathlib.Core.Path.{_≡_, refl, sym, ap, subst, _∙_}
+use mathlib.Core.Path.{_≡_, sym, ap, subst, _∙_}
 use mathlib.Core.Bool.{Bool, true, false, cond}
 use mathlib.Core.List.{List, [], _∷_}
 use mathlib.Core.Logic.{inl, inr}
@@ -27,7 +27,7 @@ use Rattle.lineage.proofs.Numbers.{same-tests}
 use Rattle.search.specs.declared.successors.Successors.{Successors}
 use Rattle.search.specs.Following.{lists, follows}
 use Rattle.search.specs.Rows.{at, Cut}
-use Rattle.search.proofs.Taken.{lists-at, at-lists, part-below, part-long, part-at, row, follows-outside, follows-row}
+use Rattle.search.proofs.Taken.{lists-at, at-lists, part-below, part-long, part-at, follows-outside, follows-row}
 
 -- a book's count and derivations, by other names for them
 pub valid-as : (b : Book) (count : Count) (n : ℕ) (ds : List Derivation) → count ≡ count-of b → n ≡ models count → ds ≡ standing b → Valid n ds

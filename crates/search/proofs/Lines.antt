@@ -1,5 +1,4 @@
 -- How the starts of the rows are written: level stretches, each a cut of the rising list.
-use borrow.Author.Count.{below-more}
 use mathlib.Core.Path.{_≡_, sym, _∙_, subst}
 use mathlib.Core.List.{List}
 use mathlib.Core.Logic.{_≢_, inl, inr}

@@ -1,20 +1,19 @@
 -- Reaching is having a chain of derivations, and marks that a search leaves are those of what is reached.
-use mathlib.Core.Path.{_≡_, sym, ap, _∙_}
+use mathlib.Core.Path.{_≡_, sym, ap, subst, fun-ext, _∙_}
 use mathlib.Core.Bool.{Bool, true, false, _&&_}
 use mathlib.Core.List.{List}
 use mathlib.Core.Logic.{_↔_}
 use Prim.Native.Nat.{ℕ, _<_, _≤_}
-use native.Mathlib.Omega.{arith}
 use lib.Dec.{ltb}
 use lib.ListN.{getD}
-use Rattle.std.proofs.shelf.Tests.{false≢true, and-parts, and-from, and-left, and-right, ltb-true, lt-ltb, le-ltb}
+use Rattle.std.proofs.shelf.Tests.{and-parts, and-from, and-left, and-right, ltb-true, lt-ltb, le-ltb}
 use Rattle.lineage.specs.Finite.{Chain, none, step, Within}
 use Rattle.lineage.specs.Book.{leads}
 use Rattle.lineage.proofs.Numbers.{same-tests}
 use Rattle.lineage.proofs.Groups.{leads-sound, leads-whole}
 use Rattle.search.specs.declared.successors.Successors.{Successors}
 use Rattle.search.specs.Following.{follows, reaches}
-use Rattle.search.specs.Marks.{Marked, Closed}
+use Rattle.search.specs.Marks.{Closed}
 use Rattle.search.proofs.Taken.{follows-within}
 use Rattle.search.proofs.Marks.{chain-marked}
 
@@ -51,3 +50,7 @@ module _ (s : Successors) where
   -- an answer that says what is reached, by chains
   pub answer-chain : (b : Bool) (u v : ℕ) → b ≡ reaches s u v → (b ≡ true) ↔ ((u < s .models) × Chain (follows s) u v)
   answer-chain b u v e = ((λ p. reaches-chain u v .0 (sym e ∙ p)), (λ c. e ∙ reaches-chain u v .1 c))
+
+-- what is said of successors, by their count and test, holds of the book of n models and the test R that they keep
+pub of-book : (P : ℕ → (ℕ → ℕ → Bool) → Type 0) (s : Successors) (n : ℕ) (R : ℕ → ℕ → Bool) → s .models ≡ n → ((u v : ℕ) → follows s u v ≡ R u v) → P (s .models) (follows s) → P n R
+of-book P s n R e h p = subst (λ (m : ℕ). P m R) e (subst (P (s .models)) (fun-ext (λ u. fun-ext (h u))) p)

@@ -1,15 +1,15 @@
 -- The models that were taken from u, as a list and as a test.
 use mathlib.Core.Path.{_≡_, refl, sym, ap, subst, _∙_}
-use mathlib.Core.Bool.{Bool, true, false, cond, _||_}
+use mathlib.Core.Bool.{Bool, true, false, cond}
 use mathlib.Core.List.{List, [], _∷_}
-use mathlib.Core.Logic.{_⊎_, inl, inr}
+use mathlib.Core.Logic.{inl, inr}
 use Prim.Native.Nat.{ℕ, zero, suc, _+_, _-_, _<_, _≤_}
 use native.Mathlib.Omega.{arith}
-use lib.Dec.{ltb, eqb}
-use lib.ListN.{length, getD, take, drop, length-take, length-drop}
+use lib.Dec.{eqb}
+use lib.ListN.{length, getD, drop, length-take, length-drop}
 use lib.Seq.{getD-take, getD-drop}
 use Rattle.std.specs.shelf.Lists.{between}
-use Rattle.std.proofs.shelf.Tests.{le-ltb, lt-ltb, cases-lt, or-cases, or-left, or-right, eqb-true, eq-eqb, true≢false, false≢true}
+use Rattle.std.proofs.shelf.Tests.{le-ltb, lt-ltb, cases-lt, or-cases, or-left, or-right, eqb-true, eq-eqb, false≢true}
 use Rattle.lineage.specs.Finite.{Within}
 use Rattle.search.specs.declared.successors.Successors.{Successors}
 use Rattle.search.specs.Following.{taken, lists, follows}

@@ -2,16 +2,16 @@
 ghost use mathlib.Core.Path.{_≡_};
 ghost use mathlib.Core.Bool.{true, false};
 ghost use mathlib.Core.Logic.{_↔_};
-ghost use Prim.Native.Nat.{ℕ, _<_, _≤_};
+ghost use Prim.Native.Nat.{ℕ, _<_};
 ghost use lib.ListN.{length, getD, replicate};
 ghost use Rattle.lineage.specs.Finite.{Chain};
 ghost use Rattle.search.specs.Following.{models-of, follows, reaches};
-ghost use Rattle.search.specs.Marks.{Marked, Closed, Found};
+ghost use Rattle.search.specs.Marks.{Closed};
 use crate::successors::Successors;
 use crate::successors::queue;
 
 impl Successors {
-    /// Marks what `from` leads to, where nothing is marked yet. The queue has the models found, each once.
+    /// Marks what `from` leads to, where nothing is marked yet. The queue takes the models in the order in which they are found.
     fn spread(&self, from: u16, marks: &mut [bool], queue: &mut [u16])
         requires known { ⌜ from < models-of (now self) ⌝ }
         requires sizes { ⌜ length (now marks) ≡ 1024 ⌝ ∗ ⌜ length (now queue) ≡ 1024 ⌝ }

@@ -11,7 +11,7 @@ impl Successors {
         self.models
     }
 
-    /// The models that were taken from `model`, rising; none if there is no such model.
+    /// The models that were taken from `model`; none if there is no such model.
     pub fn of(&self, model: u16) -> &[u16]
         ensures { λ r. ⌜ now r ≡ taken (now (self .entry)) model ⌝ }
     {

@@ -1,8 +1,6 @@
-use mathlib.Core.Path.{_≡_, sym, ap, subst, _∙_}
+use mathlib.Core.Path.{ap, _∙_}
 use mathlib.Core.List.{List}
-use Prim.Native.Nat.{ℕ, _<_, _≤_}
 use native.Mathlib.Omega.{arith}
-use lib.ListN.{length}
 use Rattle.book.specs.declared.derivation.Derivation.{Derivation}
 use Rattle.book.specs.Counts.{models}
 use Rattle.book.specs.Derivations.{taken-from}

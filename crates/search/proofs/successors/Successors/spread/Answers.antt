@@ -1,10 +1,10 @@
 use borrow.Author.Count.{below-more}
 use mathlib.Core.Path.{_≡_, sym, subst, _∙_}
 use mathlib.Core.List.{List}
-use mathlib.Core.Bool.{Bool, true, false}
-use Prim.Native.Nat.{ℕ, _+_, _<_}
+use mathlib.Core.Bool.{true}
+use Prim.Native.Nat.{ℕ, _<_}
 use native.Mathlib.Omega.{arith}
-use lib.ListN.{length, getD, set, length-set}
+use lib.ListN.{length, getD, length-set}
 use Rattle.lineage.specs.Finite.{none, step}
 use Rattle.lineage.proofs.Reach.{chain-trans}
 use Rattle.search.specs.Following.{follows, taken}
