@@ -1,0 +1,14 @@
+-- The numbers that faults of a shop are told by.
+use Prim.Native.Nat.{ℕ}
+use Rattle.book.specs.Refusals.{number as book-number}
+use Rattle.index.specs.Faults.{number as index-number}
+use Rattle.holds.specs.Faults.{number as hold-number}
+use Rattle.history.specs.declared.fault.ShopFault.{ShopFault}
+use Rattle.history.specs.declared.fault.ShopFault.the-variants.{Book, Index, Hold, Stale}
+
+-- that of the part that refused, and 13 for an index that is not current
+abbrev pub number : ShopFault → ℕ
+number (Book e) = book-number e
+number (Index e) = index-number e
+number (Hold e) = hold-number e
+number Stale = 13

@@ -1,0 +1,9 @@
+pub mod Faults
+pub mod Answers
+pub mod Events
+pub mod Standing
+pub mod Table
+pub mod Laws
+pub mod Made
+pub mod Lists
+pub mod Theorems
