@@ -9,7 +9,7 @@ use Rattle.book.specs.Books.{standing, count-of}
 use Rattle.book.proofs.Books.{valid-book}
 use Rattle.book.proofs.Taken.{valid-within, valid-surplus}
 use Rattle.index.proofs.Building.{rule-short, rule-none}
-use Rattle.search.proofs.Meant.{means-book}
+use Rattle.search.proofs.Meant.{means-book, shows-book}
 use Rattle.search.proofs.plain.kind.PlainSearchIndex.build.Needs as need
 
 pub returns-then-work-lt-WORK : need.returns-then-work-lt-WORK
@@ -27,5 +27,5 @@ returns c =
     record {
       builds = (rule-none 2048 n R (length (c .args .work .now)) (omega arith) s, means-book (c .fill .last .self) n R (c .fill .ensures .models) (c .fill .ensures .follows) (valid-within n (standing b) (valid-book b)));
       refuses = refl;
-      shows = tt;
+      shows = shows-book _ n R refl (c .fill .ensures .models) (c .fill .ensures .follows);
     }
