@@ -7,7 +7,7 @@ use Rattle.std.specs.declared.option.Option.the-variants.{Some, None}
 use Rattle.history.specs.declared.answer.Answer.{Answer}
 use Rattle.history.specs.declared.answer.Answer.the-variants.{Done, Carve, Stop, Refused}
 use Rattle.history.specs.declared.fault.ShopFault.{ShopFault}
-use Rattle.history.specs.Faults.{number}
+use Rattle.history.specs.Faults.{number, values}
 
 -- whether the answer is carve
 abbrev pub carved : Answer → Bool
@@ -33,9 +33,15 @@ refused (Refused f) = Some f
 -- the number and the values that an answer stands for
 pub record Told : Type 0 where
   pub number : Option ℕ
+  pub values : Option (ℕ × ℕ)
   pub carved : Bool
   pub named : Option ℕ
 
--- the number of its refusal, whether it is carve, and the model that it names
+-- what a fault brings, if there is one
+abbrev pub brought : Option ShopFault → Option (ℕ × ℕ)
+brought None = None
+brought (Some f) = values f
+
+-- the number of its refusal with the values that it brings, whether it is carve, and the model that it names
 abbrev pub told : Answer → Told
-told a = record { number = mapped number (refused a); carved = carved a; named = named a }
+told a = record { number = mapped number (refused a); values = brought (refused a); carved = carved a; named = named a }

@@ -10,7 +10,7 @@ use Rattle.lineage.specs.Finite.{count, Chain, none, step}
 use Rattle.lineage.proofs.Numbers.{bit, count-more, any-hit, any-some, refuted}
 use Rattle.lineage.proofs.Reach.{chain-trans}
 use Rattle.search.specs.declared.successors.Successors.{Successors}
-use Rattle.search.specs.Following.{taken, follows, reaches, circles}
+use Rattle.search.specs.Following.{taken, follows, reaches, returned}
 use Rattle.search.proofs.Taken.{follows-within, taken-follows, follows-taken}
 use Rattle.search.proofs.Reached.{reaches-chain}
 
@@ -31,7 +31,7 @@ module _ (s : Successors) (u : ℕ) where
   abbrev pub back : ℕ → Bool
   back v = not (eqb u v) && reaches s v u
 
-  pub circle-from : (k : ℕ) → k < length (taken s u) → back (getD (taken s u) k 0) ≡ true → circles s u ≡ true
+  pub circle-from : (k : ℕ) → k < length (taken s u) → back (getD (taken s u) k 0) ≡ true → returned (s .models) (reaches s) u ≡ true
   circle-from k l b =
       let v : ℕ = getD (taken s u) k 0 in
       let e : follows s u v ≡ true = taken-follows s u k l in
@@ -39,7 +39,7 @@ module _ (s : Successors) (u : ℕ) where
       let p = and-parts (not (eqb u v)) (reaches s v u) b in
       any-hit (s .models) (λ x. not (eqb u x) && (reaches s u x && reaches s x u)) v (w .1) (and-from (not (eqb u v)) (reaches s u v && reaches s v u) (p .0) (and-from (reaches s u v) (reaches s v u) (reaches-chain s u v .1 (w .0, step e none)) (p .1)))
 
-  circle-target : circles s u ≡ true → (k : ℕ) × (k < length (taken s u)) × (back (getD (taken s u) k 0) ≡ true)
+  circle-target : returned (s .models) (reaches s) u ≡ true → (k : ℕ) × (k < length (taken s u)) × (back (getD (taken s u) k 0) ≡ true)
   circle-target c =
       let a = any-some (s .models) (λ x. not (eqb u x) && (reaches s u x && reaches s x u)) c in
       let v : ℕ = a .0 in
@@ -53,5 +53,5 @@ module _ (s : Successors) (u : ℕ) where
       let passes : back w ≡ true = and-from (not (eqb u w)) (reaches s w u) (not-from-false (eqb u w) (ne-eqb u w (f .2))) (reaches-chain s w u .1 (follows-within s u w (f .1) .1, chain-trans (follows s) (f .3) (home .1))) in
       (t .0, t .1, ap back (t .2) ∙ passes)
 
-  pub no-circle : ((k : ℕ) → k < length (taken s u) → back (getD (taken s u) k 0) ≡ false) → circles s u ≡ false
-  no-circle h = refuted (circles s u) (λ c. let t = circle-target c in both-ways (back (getD (taken s u) (t .0) 0)) (h (t .0) (t .1)) (t .2))
+  pub no-circle : ((k : ℕ) → k < length (taken s u) → back (getD (taken s u) k 0) ≡ false) → returned (s .models) (reaches s) u ≡ false
+  no-circle h = refuted (returned (s .models) (reaches s) u) (λ c. let t = circle-target c in both-ways (back (getD (taken s u) (t .0) 0)) (h (t .0) (t .1)) (t .2))

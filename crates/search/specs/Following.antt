@@ -30,10 +30,10 @@ follows s u v = lists (taken s u) v
 abbrev pub reaches : Successors → ℕ → ℕ → Bool
 reaches s u v = ltb u (s .models) && ltb v (s .models) && leads (s .models) (follows s) u v
 
--- how many other models descend from u
-abbrev pub descendants-of : Successors → ℕ → ℕ
-descendants-of s u = count (s .models) (λ v. not (eqb u v) && reaches s u v)
+-- how many others u is related to, of the numbers below n
+abbrev pub others : ℕ → (ℕ → ℕ → Bool) → ℕ → ℕ
+others n S u = count n (λ v. not (eqb u v) && S u v)
 
--- u leads to another model that leads back to u
-abbrev pub circles : Successors → ℕ → Bool
-circles s u = any (s .models) (λ v. not (eqb u v) && (reaches s u v && reaches s v u))
+-- u is related to another number below n that is related back to it
+abbrev pub returned : ℕ → (ℕ → ℕ → Bool) → ℕ → Bool
+returned n S u = any n (λ v. not (eqb u v) && (S u v && S v u))

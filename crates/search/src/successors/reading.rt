@@ -11,8 +11,8 @@ impl Successors {
         self.models
     }
 
-    /// The models that were taken from `model`; none if there is no such model.
-    pub fn of(&self, model: u16) -> &[u16]
+    // The models that were taken from `model`; none if there is no such model.
+    pub(super) fn of(&self, model: u16) -> &[u16]
         ensures { λ r. ⌜ now r ≡ taken (now (self .entry)) model ⌝ }
     {
         if model >= self.models {
