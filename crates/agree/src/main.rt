@@ -1,5 +1,7 @@
 //! Answers a day over two kinds of index side by side, and prints how many lines agree, and the first that differs.
 //! As yet there is one kind, so both are plain search.
+#![tactic(auto)]
+
 use folder::answers::answers;
 use folder::reading;
 use lines::reading::Lines;

@@ -1,4 +1,6 @@
 //! Runs calls on a shop, and prints what becomes of each.
+#![tactic(auto)]
+
 use examples::worked_examples;
 
 mod calls;

@@ -1,4 +1,5 @@
 //! Worked examples: what the definitions give on books that are small enough to be worked by hand. No code runs.
+#![tactic(auto)]
 
 ghost use Rattle.examples.specs.Worked.{WorkedExamples};
 

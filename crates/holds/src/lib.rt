@@ -1,3 +1,5 @@
 //! The hold sheet: which models are on hold, and by whom.
+#![tactic(auto)]
+
 pub mod fault;
 pub mod sheet;

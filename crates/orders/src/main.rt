@@ -1,4 +1,6 @@
 //! Answers a day: reads `book.bin` and `orders.txt` in the folder that it is started in, and prints the answer lines.
+#![tactic(auto)]
+
 use folder::answers::answers;
 use folder::reading;
 use search::plain::PlainSearch;

@@ -27,7 +27,7 @@ pub enum Removed {
 // Where `key` stands among `keys`, or else where it would go, by halving.
 fn seek<K: Key>(keys: &[K], key: K) -> Result<usize, usize>
     ensures within { MatchResult result (λ i. i < length keys.now) (λ i. i ≤ length keys.now) }
-    ensures halving { result ≡ halving ranks keys.now key }
+    ensures halving { result ≡ halving K.ranks keys.now key }
 {
     let mut low = 0;
     let mut high = keys.len();
@@ -63,16 +63,16 @@ fn remove_at<K: Key>(keys: &mut [K], len: usize, at: usize)
 
 /// The place of `key` among `keys`, from 0.
 pub fn find<K: Key>(keys: &[K], key: K) -> Option<usize>
-    ensures finds { rising ranks keys.now ≡ true → Finds keys.now key result }
-    ensures anywhere { result ≡ result_ok (halving ranks keys.now key) }
+    ensures finds { rising K.ranks keys.now ≡ true → Finds keys.now key result }
+    ensures anywhere { result ≡ result_ok (halving K.ranks keys.now key) }
 {
     seek(keys, key).ok()
 }
 
 /// Adds `key` to the first `len` of `keys`, which then are one more.
 pub fn add<K: Key>(keys: &mut [K], len: usize, key: K) -> Added
-    ensures adds { Sound ranks keys.old len → Adds ranks keys.old len key result keys.new }
-    ensures anywhere { AddsAnywhere ranks keys.old len key result keys.new }
+    ensures adds { Sound K.ranks keys.old len → Adds K.ranks keys.old len key result keys.new }
+    ensures anywhere { AddsAnywhere K.ranks keys.old len key result keys.new }
 {
     if keys.len() < len {
         return Added::Full;
@@ -91,8 +91,8 @@ pub fn add<K: Key>(keys: &mut [K], len: usize, key: K) -> Added
 
 /// Removes `key` from the first `len` of `keys`, which then are one fewer.
 pub fn remove<K: Key>(keys: &mut [K], len: usize, key: K) -> Removed
-    ensures removes { Sound ranks keys.old len → Removes ranks keys.old len key result keys.new }
-    ensures anywhere { RemovesAnywhere ranks keys.old len key result keys.new }
+    ensures removes { Sound K.ranks keys.old len → Removes K.ranks keys.old len key result keys.new }
+    ensures anywhere { RemovesAnywhere K.ranks keys.old len key result keys.new }
 {
     if keys.len() < len {
         return Removed::NotThere;

@@ -24,8 +24,8 @@ impl<'a, K: Key> OrderedList<'a, K> {
 
     /// The place of `key`, from 0.
     pub fn find(&self, key: K) -> Option<usize>
-        ensures finds { Sound ranks self.now.keys.now self.now.len → Finds (take self.now.len self.now.keys.now) key result }
-        ensures anywhere { FindsAnywhere ranks self.now.keys.now self.now.len key result }
+        ensures finds { Sound K.ranks self.now.keys.now self.now.len → Finds (take self.now.len self.now.keys.now) key result }
+        ensures anywhere { FindsAnywhere K.ranks self.now.keys.now self.now.len key result }
     {
         if self.keys.len() < self.len {
             return None;
@@ -37,8 +37,8 @@ impl<'a, K: Key> OrderedList<'a, K> {
     pub fn add(&mut self, key: K) -> Added
         ensures lender { self.new.keys.ghost_name ≡ self.old.keys.ghost_name }
         ensures len { self.new.len ≡ longer result self.old.len }
-        ensures adds { Sound ranks self.old.keys.now self.old.len → Adds ranks self.old.keys.now self.old.len key result self.new.keys.now }
-        ensures anywhere { AddsAnywhere ranks self.old.keys.now self.old.len key result self.new.keys.now }
+        ensures adds { Sound K.ranks self.old.keys.now self.old.len → Adds K.ranks self.old.keys.now self.old.len key result self.new.keys.now }
+        ensures anywhere { AddsAnywhere K.ranks self.old.keys.now self.old.len key result self.new.keys.now }
     {
         let len = self.len;
         let told = lent::add(self.keys, len, key);
@@ -52,8 +52,8 @@ impl<'a, K: Key> OrderedList<'a, K> {
     pub fn remove(&mut self, key: K) -> Removed
         ensures lender { self.new.keys.ghost_name ≡ self.old.keys.ghost_name }
         ensures len { self.new.len ≡ shorter result self.old.len }
-        ensures removes { Sound ranks self.old.keys.now self.old.len → Removes ranks self.old.keys.now self.old.len key result self.new.keys.now }
-        ensures anywhere { RemovesAnywhere ranks self.old.keys.now self.old.len key result self.new.keys.now }
+        ensures removes { Sound K.ranks self.old.keys.now self.old.len → Removes K.ranks self.old.keys.now self.old.len key result self.new.keys.now }
+        ensures anywhere { RemovesAnywhere K.ranks self.old.keys.now self.old.len key result self.new.keys.now }
     {
         let len = self.len;
         let told = lent::remove(self.keys, len, key);

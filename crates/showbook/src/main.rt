@@ -1,4 +1,6 @@
 //! Prints the book file `book.bin` of the folder that it is started in, and how many models descend from each.
+#![tactic(auto)]
+
 ghost use Rattle.std.specs.Prelude.{◌≡◌, ◌++◌, IfOk, string_bytes, codes, decimal};
 ghost use Rattle.bookfile.specs.Refusals.{number};
 

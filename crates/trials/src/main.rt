@@ -1,5 +1,7 @@
 //! Answers the days of `cases.txt`, and then days whose files are there or missing, and prints what becomes of each.
 //! A case is a line `NAME: BOOK / ORDERS`: the bytes of the two files in hexadecimal with spaces between them, `xx*N` for a byte N times.
+#![tactic(auto)]
+
 use anyhow::anyhow;
 use folder::answers::answers;
 use folder::reading;

@@ -1,5 +1,7 @@
 //! Runs the book files of `cases.txt` and the limits of a book, and prints what becomes of each.
 //! A case is a line `NAME: BYTES`, the bytes in hexadecimal with spaces between them.
+#![tactic(auto)]
+
 use anyhow::anyhow;
 use book::count::Count;
 use book::derivation::Derivation;
