@@ -1,10 +1,10 @@
 -- A key insert into a rising list, or taken out of it: where it goes, and that the list rises after.
-use Rattle.std.proofs.Common.{◌≡◌, suc, ◌+◌, ◌-◌, true, false, List, [], ◌∷◌, ◌++◌, length, get_or, Ordering, Less, Equal, Greater, refl, ap, ◌∙◌, arith}
+use Rattle.std.proofs.Common.{◌≡◌, suc, true, false, List, [], ◌∷◌, ◌++◌, length, get_or, Ordering, Less, Equal, Greater, refl, ap, ◌∙◌, arith}
 use Rattle.std.specs.Ordering.{ordering_reverse}
 use Rattle.std.specs.List.{insert as inserted, remove}
 use Rattle.std.proofs.lemmas.Bool.{true≢false, false≢true}
 use Rattle.rising.specs.Order.{Order}
-use Rattle.rising.specs.Lists.{rising, place, stands, pick, insert, delete, sought}
+use Rattle.rising.specs.Lists.{place, stands, pick, insert, delete}
 use Rattle.rising.proofs.Place.{Rises, BelowEach, AboveEach, below_each_cons, below_each_tail, below_each_head, rises_cons, rises_tail}
 
 module _ {K : Type 0} (ranks : K → K → Ordering) where

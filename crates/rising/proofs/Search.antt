@@ -3,7 +3,7 @@ use Rattle.std.proofs.Common.{◌≡◌, ℕ, zero, suc, ◌+◌, ◌-◌, ◌<�
 use Rattle.std.proofs.lemmas.List.{get_or_read}
 use Rattle.std.proofs.lemmas.Bool.{ltb-true, ltb-false, lt-ltb, le-ltb}
 use Rattle.rising.specs.Order.{Order}
-use Rattle.rising.specs.Lists.{rising, place, stands, pick, sought}
+use Rattle.rising.specs.Lists.{place, stands, pick, sought}
 use Rattle.rising.specs.Halving.{middle, halve, halving}
 use Rattle.rising.proofs.Place.{Rises, place_within, stands_within, above_place, below_place, at_place}
 

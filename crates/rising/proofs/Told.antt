@@ -11,7 +11,7 @@ use Rattle.rising.specs.declared.lent.Removed.TheVariants.{Removed as Gone, NotT
 use Rattle.rising.specs.Order.{Order}
 use Rattle.rising.specs.Lists.{rising, Sound, place, stands, insert, delete, sought}
 use Rattle.rising.specs.Halving.{halving}
-use Rattle.rising.specs.Outcomes.{Finds, Adds, Removes, AddsAnywhere, RemovesAnywhere, adding}
+use Rattle.rising.specs.Outcomes.{Finds, Adds, Removes, AddsAnywhere, RemovesAnywhere}
 use Rattle.rising.proofs.Place.{rises_from_rising, rising_from_rises, stands_within}
 use Rattle.rising.proofs.Search.{seeks}
 use Rattle.rising.proofs.Edits.{insert_inserted, delete_removed, length_insert, length_delete, insert_rises, delete_rises, stands_is}

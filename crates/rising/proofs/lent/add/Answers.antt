@@ -31,7 +31,7 @@ pub returns-else-len-keys : goal.returns-else-len-keys
 returns-else-len-keys g c =
     let R = g.K.Key.ranks in
     let was = c.args.keys.now in
-    let mem = c.insert-at.new.keys in
+    let mem = c.insert_at.new.keys in
     let f = of_front R was c.args.len c.args.key _ c.in-Err.ensures.halving in
-    let a : AddsAnywhere R was c.args.len c.args.key Done mem = (omega arith, (c.in-Err.at, f, c.insert-at.ensures)) in
+    let a : AddsAnywhere R was c.args.len c.args.key Done mem = (omega arith, (c.in-Err.at, f, c.insert_at.ensures)) in
     record { adds = adds R g.met.K.Key.order was c.args.len c.args.key Done mem a; anywhere = a }

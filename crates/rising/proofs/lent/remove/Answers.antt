@@ -15,9 +15,9 @@ pub returns-in-Ok : goal.returns-in-Ok
 returns-in-Ok g c =
     let R = g.K.Key.ranks in
     let was = c.args.keys.now in
-    let mem = c.remove-at.new.keys in
+    let mem = c.remove_at.new.keys in
     let f = of_front R was c.args.len c.args.key _ c.in-Ok.ensures.halving in
-    let a : RemovesAnywhere R was c.args.len c.args.key Gone mem = (omega arith, (c.in-Ok.at, f, c.remove-at.ensures)) in
+    let a : RemovesAnywhere R was c.args.len c.args.key Gone mem = (omega arith, (c.in-Ok.at, f, c.remove_at.ensures)) in
     record { removes = removes R g.met.K.Key.order was c.args.len c.args.key Gone mem a; anywhere = a }
 
 pub returns-in-Err : goal.returns-in-Err
