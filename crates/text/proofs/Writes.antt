@@ -1,6 +1,5 @@
 -- Three texts written one behind another, for which there is room.
 use Rattle.std.proofs.Common.{◌≡◌, ℕ, ◌+◌, ◌≤◌, List, ◌++◌, length, Some, None, Option, ap, ◌∙◌, arith, length-append}
-use Rattle.text.specs.Placing.{placed}
 use Rattle.text.specs.Numerals.{Wrote}
 use Rattle.text.proofs.Placing.{placed_three, length_placed}
 

@@ -18,8 +18,8 @@ bounds-out-last t c =
     let s : c.args.n < 65536 = omega arith in
     omega (arith, length_step c.args.n c.if-n-lt10.false s)
 
-pub overflow-add-result-else-n-lt10 : goal.overflow-add-result-else-n-lt10
-overflow-add-result-else-n-lt10 t c =
+pub overflow_add-result-else-n-lt10 : goal.overflow_add-result-else-n-lt10
+overflow_add-result-else-n-lt10 t c =
     let s : c.args.n < 65536 = omega arith in
     omega (arith, length_step c.args.n c.if-n-lt10.false s)
 

@@ -2,8 +2,8 @@ use Rattle.std.proofs.Common.{◌/◌, ◌<◌, sym, arith}
 use Rattle.text.proofs.Lengths.{length_digit, length_step, length_few}
 use Rattle.text.proofs.numeral.+width.Goals as goal
 
-pub overflow-add-result : goal.overflow-add-result
-overflow-add-result t c =
+pub overflow_add-result : goal.overflow_add-result
+overflow_add-result t c =
     let s : c.args.n / 10 < 65536 = omega arith in
     omega (arith, length_few (c.args.n / 10) s)
 

@@ -6,8 +6,8 @@ use Rattle.std.proofs.lemmas.List.{take_all}
 use Rattle.text.proofs.Fronts.{all_at, range_from_digit, digit_value_is}
 use Rattle.text.proofs.numeral.number.Goals as goal
 
-pub overflow-sub-n : goal.overflow-sub-n
-overflow-sub-n c = (range_from_digit _ (all_at c.args.bytes.now c.loop-b.b-index c.requires.digits c.loop-b-test.true)).0
+pub overflow_sub-n : goal.overflow_sub-n
+overflow_sub-n c = (range_from_digit _ (all_at c.args.bytes.now c.loop-b.b-index c.requires.digits c.loop-b-test.true)).0
 
 pub loop-b-preserved : goal.loop-b-preserved
 loop-b-preserved c =

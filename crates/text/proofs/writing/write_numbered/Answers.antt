@@ -1,11 +1,11 @@
-use Rattle.std.proofs.Common.{◌≡◌, ◌+◌, ◌<◌, [], ◌∷◌, ◌++◌, length, decimal, refl, arith, length-append}
+use Rattle.std.proofs.Common.{◌<◌, [], ◌∷◌, ◌++◌, decimal, refl, arith, length-append}
 use Rattle.text.proofs.Lengths.{length_few}
 use Rattle.text.proofs.Writes.{wrote_three}
 use Rattle.text.proofs.writing.write_numbered.Goals as goal
 use Rattle.text.proofs.writing.write_numbered.Goals.{then-tail-len-via-then-tail-len, then-tail-len-via-else-tail-len+then-len-tail}
 
-pub overflow-add-tail : goal.overflow-add-tail
-overflow-add-tail c =
+pub overflow_add-tail : goal.overflow_add-tail
+overflow_add-tail c =
     let small : c.args.n < 65536 = omega arith in
     omega (arith, length_few c.args.n small)
 
@@ -19,5 +19,5 @@ returns-then-tail-len c =
 
 pub returns : goal.returns
 returns c =
-    wrote_three c.args.out.now c.write-bytes.new.out c.write-number.new.out c.write-bytes-2.new.out c.args.word.now (decimal c.args.n) (10 ∷ [])
-    c.in-ok-at.at c.in-ok-end.end c.write-bytes-2.result (omega arith) c.in-ok-at.ensures c.in-ok-end.ensures.wrote c.write-bytes-2.ensures
+    wrote_three c.args.out.now c.write_bytes.new.out c.write_number.new.out c.write_bytes-2.new.out c.args.word.now (decimal c.args.n) (10 ∷ [])
+    c.in_ok-at.at c.in_ok-end.end c.write_bytes-2.result (omega arith) c.in_ok-at.ensures c.in_ok-end.ensures.wrote c.write_bytes-2.ensures
