@@ -54,26 +54,26 @@ refused_strike b d told p e =
     ap (λ (o : Option Refusal). first o (remove_refusal (removing by_models (standing b) d))) p ∙ ap remove_refusal (sym e)
 
 -- the invariants of a book whose list has become longer or shorter
-abbrev Kept : Book → List Derivation → ℕ → Type 0
-Kept b mem n = (n ≤ 2048) × ((rising by_models (take n mem) ≡ true) × ((all_proper (models b.count) (take n mem) ≡ true) × Unit {0}))
+pub record Kept (b : Book) (mem : List Derivation) (n : ℕ) : Type 0 where
+  pub few : n ≤ 2048
+  pub rises : rising by_models (take n mem) ≡ true
+  pub proper : all_proper (models b.count) (take n mem) ≡ true
 
 pub entered : (b : Book) (d : Derivation) (mem : List Derivation) (n : ℕ) → length b.places ≡ 2048 → b.len < length b.places → improper (models b.count) d ≡ None → n ≡ suc b.len → Adds by_models b.places b.len d Done mem → Kept b mem n
 entered b d mem n z room p e a =
-    let front : take n mem ≡ take (suc b.len) mem = ap (λ (m : ℕ). take m mem) e in (
-      omega arith,
-      (
-        ap (rising by_models) front ∙ a.sound.rises,
-        (ap (all_proper (models b.count)) (front ∙ a.list) ∙ all_proper_insert (models b.count) (standing b) d (proper_from (models b.count) d p) b.proper, tt),
-      ),
-    )
+    let front : take n mem ≡ take (suc b.len) mem = ap (λ (m : ℕ). take m mem) e in
+    record {
+      few = omega arith;
+      rises = ap (rising by_models) front ∙ a.sound.rises;
+      proper = ap (all_proper (models b.count)) (front ∙ a.list) ∙ all_proper_insert (models b.count) (standing b) d (proper_from (models b.count) d p) b.proper;
+    }
 
 pub struck : (b : Book) (d : Derivation) (mem : List Derivation) (n : ℕ) → n ≡ pred b.len → Removes by_models b.places b.len d Gone mem → Kept b mem n
 struck b d mem n e a =
     let few = b.few in
-    let front : take n mem ≡ take (pred b.len) mem = ap (λ (m : ℕ). take m mem) e in (
-      omega arith,
-      (
-        ap (rising by_models) front ∙ a.sound.rises,
-        (ap (all_proper (models b.count)) (front ∙ a.list) ∙ all_proper_delete (models b.count) (standing b) d b.proper, tt),
-      ),
-    )
+    let front : take n mem ≡ take (pred b.len) mem = ap (λ (m : ℕ). take m mem) e in
+    record {
+      few = omega arith;
+      rises = ap (rising by_models) front ∙ a.sound.rises;
+      proper = ap (all_proper (models b.count)) (front ∙ a.list) ∙ all_proper_delete (models b.count) (standing b) d b.proper;
+    }

@@ -10,4 +10,4 @@ returns c =
     let d = c.args.derivation in
     let ds = c.derivations.result.now in
     let up : rising by_models ds ≡ true = ap (rising by_models) c.derivations.ensures ∙ c.args.self.now.rises in
-    c.is-some.ensures ∙ found_taken ds d c.find.result (c.find.ensures.finds up) ∙ ap (λ xs. taken_from xs d.from d.to) c.derivations.ensures
+    c.is_some.ensures ∙ found_taken ds d c.find.result (c.find.ensures.finds up) ∙ ap (λ xs. taken_from xs d.from d.to) c.derivations.ensures
