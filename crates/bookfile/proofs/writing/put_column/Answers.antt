@@ -13,9 +13,9 @@ pub loop-derivation-preserved : goal.loop-derivation-preserved
 loop-derivation-preserved c =
     let l = c.loop-derivation in
     let e : l.end ≡ c.args.at + 2 * l.derivation-index = l.invariant.0 in (
-      omega (arith, c.put-word-end.ensures.end),
-      column_more c.args.side c.args.out.now l.out c.put-word-end.new.out c.args.at l.end l.derivation-index c.args.derivations.now _
-          c.loop-derivation-test.true c.requires e l.invariant.1 (c.put-word-end.ensures.bytes ∙ ap (λ m. placed l.out l.end (words (m ∷ []))) c.model.ensures),
+      omega (arith, c.put_word-end.ensures.end),
+      column_more c.args.side c.args.out.now l.out c.put_word-end.new.out c.args.at l.end l.derivation-index c.args.derivations.now _
+          c.loop-derivation-test.true c.requires e l.invariant.1 (c.put_word-end.ensures.bytes ∙ ap (λ m. placed l.out l.end (words (m ∷ []))) c.model.ensures),
     )
 
 pub returns : goal.returns

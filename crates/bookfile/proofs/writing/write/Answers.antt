@@ -8,8 +8,8 @@ use Rattle.bookfile.specs.Placing.{placed}
 use Rattle.bookfile.proofs.Written.{Steps, written, reads_back}
 use Rattle.bookfile.proofs.writing.write.Goals as goal
 
-pub overflow-cast-len : goal.overflow-cast-len
-overflow-cast-len c =
+pub overflow_cast-len : goal.overflow_cast-len
+overflow_cast-len c =
     let few = (valid_book c.args.book.now).few in
     let l = ap length c.derivations-derivations.ensures in
     omega arith
@@ -21,15 +21,15 @@ returns c =
     let l : length c.derivations-derivations.result.now ≡ length (standing b) = ap length is in
     let room : 4 + 4 * length (standing b) ≤ length c.args.out.now = omega arith in
     let n : c.models.result ≡ models (count_of b) = c.models.ensures ∙ ap models c.count.ensures in
-    let s : Steps (models (count_of b)) (standing b) c.args.out.now c.put-word-models.new.out c.put-word-sizes.new.out c.put-column-firsts.new.out c.put-column.new.out c.put-word-models.result c.put-word-sizes.result c.put-column-firsts.result c.put-column.result = record {
+    let s : Steps (models (count_of b)) (standing b) c.args.out.now c.put_word-models.new.out c.put_word-sizes.new.out c.put_column-firsts.new.out c.put_column.new.out c.put_word-models.result c.put_word-sizes.result c.put_column-firsts.result c.put_column.result = record {
       room = room;
-      models = c.put-word-models.ensures.bytes ∙ ap (λ m. placed c.args.out.now 0 (words (m ∷ []))) n;
-      models_end = c.put-word-models.ensures.end;
-      sizes = c.put-word-sizes.ensures.bytes ∙ ap (λ m. placed c.put-word-models.new.out c.put-word-models.result (words (m ∷ []))) l;
-      sizes_end = c.put-word-sizes.ensures.end;
-      firsts = c.put-column-firsts.ensures.bytes ∙ ap (λ ds. placed c.put-word-sizes.new.out c.put-word-sizes.result (column First ds)) is;
-      firsts_end = c.put-column-firsts.ensures.end ∙ ap (λ k. c.put-word-sizes.result + 2 * k) l;
-      seconds = c.put-column.ensures.bytes ∙ ap (λ ds. placed c.put-column-firsts.new.out c.put-column-firsts.result (column Second ds)) is;
-      seconds_end = c.put-column.ensures.end ∙ ap (λ k. c.put-column-firsts.result + 2 * k) l;
+      models = c.put_word-models.ensures.bytes ∙ ap (λ m. placed c.args.out.now 0 (words (m ∷ []))) n;
+      models_end = c.put_word-models.ensures.end;
+      sizes = c.put_word-sizes.ensures.bytes ∙ ap (λ m. placed c.put_word-models.new.out c.put_word-models.result (words (m ∷ []))) l;
+      sizes_end = c.put_word-sizes.ensures.end;
+      firsts = c.put_column-firsts.ensures.bytes ∙ ap (λ ds. placed c.put_word-sizes.new.out c.put_word-sizes.result (column First ds)) is;
+      firsts_end = c.put_column-firsts.ensures.end ∙ ap (λ k. c.put_word-sizes.result + 2 * k) l;
+      seconds = c.put_column.ensures.bytes ∙ ap (λ ds. placed c.put_column-firsts.new.out c.put_column-firsts.result (column Second ds)) is;
+      seconds_end = c.put_column.ensures.end ∙ ap (λ k. c.put_column-firsts.result + 2 * k) l;
     } in
-    record { writes = written s; reads_back = reads_back (models (count_of b)) (standing b) c.args.out.now c.put-column.result c.put-column.new.out (valid_book b) (written s) }
+    record { writes = written s; reads_back = reads_back (models (count_of b)) (standing b) c.args.out.now c.put_column.result c.put_column.new.out (valid_book b) (written s) }
