@@ -9,12 +9,16 @@ use Rattle.holds.proofs.sheet.HoldSheet.place.Goals as goal
 pub returns-then-len-eq64 : goal.returns-then-len-eq64
 returns-then-len-eq64 c = (full_fault c.args.self.now c.args.model c.in-None.ensures c.if-len-eq64.true, refl)
 
-pub invariant-of-self : goal.invariant-of-self
-invariant-of-self c =
+pub invariant_of-self : goal.invariant_of-self
+invariant_of-self c =
     let s = c.args.self.now in
     let f = s.few in
     let l : s.len < 64 = omega (arith, c.if-len-eq64.false) in
-    (length-set s.places s.len _ ∙ s.room, (omega arith, (ap apart (placed s _ l) ∙ apart_placed (standing s) _ c.in-None.ensures s.apart, tt)))
+    record {
+      room = length-set s.places s.len _ ∙ s.room;
+      few = omega arith;
+      apart = ap apart (placed s _ l) ∙ apart_placed (standing s) _ c.in-None.ensures s.apart;
+    }
 
 pub returns-in-Some : goal.returns-in-Some
 returns-in-Some c =

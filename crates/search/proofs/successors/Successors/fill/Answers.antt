@@ -5,8 +5,8 @@ use Rattle.book.specs.Derivations.{taken_from}
 use Rattle.search.proofs.Filled.{valid_as, firsts_rise, known, starts_rise, starts_fit, targets_known, follows_book}
 use Rattle.search.proofs.successors.Successors.fill.Goals as goal
 
-pub copy-targets-requires : goal.copy-targets-requires
-copy-targets-requires c =
+pub copy_targets-requires : goal.copy_targets-requires
+copy_targets-requires c =
     let valid = valid_as c.args.book.now c.count.result _ _ c.count.ensures c.models-models.ensures c.derivations-derivations.ensures in
     omega (arith, valid.few)
 
@@ -22,22 +22,19 @@ cut-requires c =
       known = λ k l. (known n ds valid k l).0;
     }
 
-pub invariant-of-self : goal.invariant-of-self
-invariant-of-self c =
+pub invariant_of-self : goal.invariant_of-self
+invariant_of-self c =
     let n = c.models-models.result in
     let ds = c.derivations-derivations.result.now in
     let starts = c.cut.new.starts in
-    let targets = c.copy-targets.new.targets in
-    let valid = valid_as c.args.book.now c.count.result n ds c.count.ensures c.models-models.ensures c.derivations-derivations.ensures in (
-      valid.most,
-      (
-        starts_rise n ds valid starts targets c.cut.ensures c.copy-targets.ensures,
-        (
-          starts_fit n ds valid starts targets c.cut.ensures c.copy-targets.ensures,
-          (targets_known n ds valid starts targets c.cut.ensures c.copy-targets.ensures, tt),
-        ),
-      ),
-    )
+    let targets = c.copy_targets.new.targets in
+    let valid = valid_as c.args.book.now c.count.result n ds c.count.ensures c.models-models.ensures c.derivations-derivations.ensures in
+    record {
+      few = valid.most;
+      rise = starts_rise n ds valid starts targets c.cut.ensures c.copy_targets.ensures;
+      fits = starts_fit n ds valid starts targets c.cut.ensures c.copy_targets.ensures;
+      known = targets_known n ds valid starts targets c.cut.ensures c.copy_targets.ensures;
+    }
 
 pub returns : goal.returns
 returns c =
@@ -47,6 +44,6 @@ returns c =
     record {
       models = c.models-models.ensures ∙ ap models c.count.ensures;
       follows = λ u v.
-          follows_book ds _ valid c.cut.ensures c.copy-targets.ensures (omega (arith, valid.few)) u v
+          follows_book ds _ valid c.cut.ensures c.copy_targets.ensures (omega (arith, valid.few)) u v
           ∙ ap (λ (xs : List Derivation). taken_from xs u v) c.derivations-derivations.ensures;
     }
