@@ -1,5 +1,5 @@
 -- The lines of a file: what stands before, between and behind its bytes 0A, with nothing behind the last.
-use Rattle.std.specs.Prelude.{◌≡◌, ℕ, suc, cond, List, [], ◌∷◌, ◌++◌, ◌==◌, ◌≢◌}
+use Rattle.std.specs.Prelude.{ℕ, suc, cond, List, [], ◌∷◌, ◌++◌, ◌==◌, ◌≢◌}
 use Rattle.std.specs.List.{AllByRecursion as All}
 
 -- a byte put before the first line

@@ -1,5 +1,5 @@
 -- Each call keeps the law, by what the book, the sheet and the index did.
-use Rattle.std.proofs.Common.{◌≡◌, ℕ, ◌<◌, Bool, true, false, cond, not, ◌&&◌, ltb, List, [], ◌∷◌, ◌++◌, Some, None, Ok, Err, Decides, Option, Result, sym, refl, ap, ◌∙◌, subst, ap₂}
+use Rattle.std.proofs.Common.{◌≡◌, ℕ, Bool, true, false, cond, not, ◌&&◌, ltb, List, [], ◌∷◌, ◌++◌, Some, None, Ok, Decides, Option, Result, sym, refl, ap, ◌∙◌, subst, ap₂}
 use mathlib.Core.Path.{fun_ext}
 use Rattle.std.specs.Option.{option_map}
 use Rattle.std.proofs.lemmas.Bool.{true≢false, not-false, ltb-true}
@@ -14,7 +14,6 @@ use Rattle.book.specs.Books.{standing, count_of, is_stale, entry_refusal, strike
 use Rattle.rising.specs.Lists.{insert, delete}
 use Rattle.index.specs.declared.fault.IndexFault.{IndexFault}
 use Rattle.index.specs.Meanings.{Meaning, tells, Means}
-use Rattle.index.specs.Builds.{Builds}
 use Rattle.holds.specs.declared.fault.HoldFault.{HoldFault}
 use Rattle.holds.specs.declared.sheet.Hold.{Hold}
 use Rattle.holds.specs.declared.sheet.HoldSheet.{HoldSheet}
@@ -30,7 +29,7 @@ use Rattle.history.specs.Answers.{refused}
 use Rattle.history.specs.Events.{Event, History, placed, released, indexed, happened}
 use Rattle.history.specs.Standing.{stands, current}
 use Rattle.history.specs.Table.{Refuses, check, refusal}
-use Rattle.history.specs.Laws.{Bars, Free, Lowest, Lawful}
+use Rattle.history.specs.Laws.{Bars, Lawful}
 use Rattle.history.specs.Lists.{book_of, sheet_of}
 use Rattle.history.proofs.Steps.{current_none, current_entered, current_struck, current_indexed, current_placed, current_released, book_none, book_entered, book_struck, book_indexed, book_placed, book_released, sheet_none, sheet_entered, sheet_struck, sheet_indexed, sheet_placed, sheet_released, stands_indexed, stands_placed, stands_released}
 use Rattle.history.proofs.Last.{none_some}
@@ -39,7 +38,7 @@ use Rattle.history.proofs.Kept.{Kept, kept_lawful, book_test}
 use Rattle.history.proofs.Owed.{entry_owed, strike_owed, index_owed, hold_owed, release_owed, bars_told}
 use Rattle.history.proofs.Answering.{lawful_refused, lawful_done, lawful_carve, lawful_stop, happened_accepted}
 use Rattle.shop.specs.declared.running.Shop.{Shop}
-use Rattle.shop.specs.Shops.{book_in, sheet_in, index_in, models_in, unknown_to, bars_in, LowestOf, Follows, Keeps, ShownBy}
+use Rattle.shop.specs.Shops.{book_in, sheet_in, index_in, models_in, unknown_to, bars_in, LowestOf, Follows, Keeps}
 
 -- the check of a model, by itself
 known_next : (b : Bool) (next : Option ShopFault) → cond b None (Some NoSuchModel) ≡ None → check (not b) (OfBook NoSuchModel) next ≡ next

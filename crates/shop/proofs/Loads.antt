@@ -1,5 +1,5 @@
 -- Derivations entered in turn into a shop, one place after another.
-use Rattle.std.proofs.Common.{◌≡◌, ℕ, zero, suc, ◌+◌, List, [], ◌∷◌, ◌++◌, map, reverse, take, Some, None, Option, sym, refl, ap, ◌∙◌, subst, add-one}
+use Rattle.std.proofs.Common.{◌≡◌, ℕ, zero, suc, ◌+◌, List, [], ◌∷◌, ◌++◌, map, reverse, take, Some, None, Option, sym, refl, ap, ◌∙◌, add-one}
 use Rattle.std.specs.List.{slice_get}
 use Rattle.std.specs.Option.{option_map}
 use Rattle.std.proofs.lemmas.List.{reverse-append, map-append}
@@ -15,9 +15,8 @@ use Rattle.history.specs.declared.call.Call.{Call}
 use Rattle.history.specs.declared.call.Call.TheVariants.{Enter}
 use Rattle.history.specs.declared.fault.ShopFault.{ShopFault}
 use Rattle.history.specs.declared.fault.ShopFault.TheVariants.{Book as OfBook}
-use Rattle.history.specs.Events.{Event, History, happened}
+use Rattle.history.specs.Events.{History, happened}
 use Rattle.history.specs.Table.{Refuses, refusal}
-use Rattle.history.specs.Lists.{book_of}
 use Rattle.history.proofs.Last.{none_some}
 use Rattle.history.proofs.Steps.{book_entered}
 use Rattle.history.proofs.Owed.{entry_owed}

@@ -1,10 +1,10 @@
 -- A run, call by call; and two runs over the same calls.
-use Rattle.std.proofs.Common.{◌≡◌, ℕ, ◌+◌, ◌-◌, ◌<◌, ◌≤◌, min, Bool, true, false, cond, leb, List, [], ◌∷◌, ◌++◌, map, reverse, length, get_or, take, drop, set, Some, None, Option, sym, refl, ap, ◌∙◌, subst, inl, inr, append_assoc, arith}
+use Rattle.std.proofs.Common.{◌≡◌, ℕ, ◌+◌, ◌-◌, ◌<◌, ◌≤◌, min, Bool, true, false, cond, leb, List, [], ◌∷◌, ◌++◌, map, reverse, length, get_or, take, drop, set, Some, sym, refl, ap, ◌∙◌, subst, inl, inr, append_assoc, arith}
 use mathlib.Core.Path.{fun_ext}
 use mathlib.Core.List.{reverse-cons}
 use native.Mathlib.Nat.{min-eq_left, min-eq_right}
 use Rattle.std.proofs.lemmas.Bool.{cases_lt, cond-true, cond-false, le-leb, lt-leb}
-use Rattle.std.proofs.lemmas.List.{reverse-append, length-reverse, length-map, length-take-le, take_more, take_all, take-take, drop_more, drop_all, set-append_right, take-append-drop, take_at, length-take, get_or-take}
+use Rattle.std.proofs.lemmas.List.{reverse-append, length-reverse, length-map, length-take-le, take_more, take_all, take-take, drop_more, set-append_right, take-append-drop, take_at, length-take, get_or-take}
 use Rattle.lineage.specs.Lists.{◌∈◌}
 use Rattle.index.specs.Builds.{rule}
 use Rattle.index.specs.Meanings.{Meaning}
@@ -13,8 +13,8 @@ use Rattle.history.specs.declared.call.Call.{Call}
 use Rattle.history.specs.Answers.{told}
 use Rattle.history.specs.Events.{History}
 use Rattle.history.specs.Table.{Refuses}
-use Rattle.history.specs.Laws.{LawfulHistory, Law}
-use Rattle.history.specs.Theorems.{calls, answers, SameAnswers}
+use Rattle.history.specs.Laws.{LawfulHistory}
+use Rattle.history.specs.Theorems.{calls, answers}
 use Rattle.history.proofs.Histories.{kinds_agree}
 use Rattle.history.proofs.Made.{lawful_law, law_lawful}
 use Rattle.shop.specs.declared.running.Shop.{Shop}

@@ -1,16 +1,15 @@
 -- A shop opened from a checked book file.
-use Rattle.std.specs.Prelude.{◌≡◌, ℕ, List, ◌∷◌, map, reverse, Ok, Err, Result}
+use Rattle.std.specs.Prelude.{◌≡◌, ℕ, List, map, reverse, Ok, Err, Result}
 use Rattle.book.specs.declared.derivation.Derivation.{Derivation}
 use Rattle.book.specs.Derivations.{Valid}
 use Rattle.book.specs.Books.{standing}
 use Rattle.bookfile.specs.declared.checked.BookFile.{BookFile}
 use Rattle.bookfile.specs.Files.{file}
-use Rattle.bookfile.specs.Checked.{count_shown, shown, entering}
+use Rattle.bookfile.specs.Checked.{count_shown, shown}
 use Rattle.index.specs.Meanings.{Meaning, nothing}
 use Rattle.history.specs.declared.answer.Answer.TheVariants.{Done}
 use Rattle.history.specs.declared.call.Call.TheVariants.{Enter}
 use Rattle.history.specs.declared.fault.ShopFault.{ShopFault}
-use Rattle.history.specs.declared.fault.ShopFault.TheVariants.{Book as OfBook}
 use Rattle.history.specs.Events.{History}
 use Rattle.history.specs.Table.{Refuses}
 use Rattle.shop.specs.declared.running.Shop.{Shop}

@@ -8,6 +8,6 @@ pub returns-in-32 : goal.returns-in-32
 returns-in-32 c =
     let xs = c.args.bytes.now in
     let h : get_or xs 0 0 ≡ 32 = omega arith in
-    next_cases (λ x. x.now) xs (take (length xs - 1) (drop 1 xs)) c.take-number.result
+    next_cases (λ x. x.now) xs (take (length xs - 1) (drop 1 xs)) c.take_number.result
     (first_rest xs 0 (omega (arith, ltb-false)) ∙ ap (λ b. b ∷ take (length xs - 1) (drop 1 xs)) h)
-    c.take-number.ensures
+    c.take_number.ensures

@@ -12,8 +12,8 @@ returns-in-len1-up c =
     let p : Parsed c.args.line.now c.form.result = subst P (sym (first_rest c.args.line.now 0 (omega (arith, ltb-false)))) c.form.ensures in
     record { parsed = p; exactly = parsed_exactly _ _ p; computed = form_only _ _ p }
 
-pub returns-in-default : goal.returns-in-default
-returns-in-default c =
+pub returns-in_default : goal.returns-in_default
+returns-in_default c =
     let short : length c.args.line.now < 1 = omega (arith, ltb-true) in
     let p : Parsed c.args.line.now None = λ d f e. omega (arith, ap length e) in
     record { parsed = p; exactly = parsed_exactly _ _ p; computed = form_only _ _ p }

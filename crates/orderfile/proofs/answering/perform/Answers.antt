@@ -10,9 +10,9 @@ use Rattle.orderfile.proofs.answering.perform.Goals as goal
 
 pub returns-in-err-enter : goal.returns-in-err-enter
 returns-in-err-enter g c =
-    let p = err_from_is_err_and c.from-residual.result c.from-residual.ensures.1 in
+    let p = err_from_is_err_and c.from_residual.result c.from_residual.ensures.1 in
     call_refused g.I.Index.meaning g.I.Index.refuses c.args.shop.now (length c.args.work.now) c.args.form (Enter c.in-Enter.derivation) c.enter.new.self c.in-Enter.is
-    c.from-residual.result p.0 c.in-err-enter.field-0.0 p.1 p.2 c.in-err-enter.ensures.law
+    c.from_residual.result p.0 c.in-err-enter.field-0.0 p.1 p.2 c.in-err-enter.ensures.law
 
 pub returns-in-err-strike : goal.returns-in-err-strike
 returns-in-err-strike g c =

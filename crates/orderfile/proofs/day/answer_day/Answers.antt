@@ -18,7 +18,7 @@ returns-then-out-lt16 g c =
     let lines = length (lines_of c.args.orders.now) in
     let low = le-max_left 16 (16 * lines) in
     let high = le-max_right 16 (16 * lines) in
-    let many = c.count-lines-lines.ensures in
+    let many = c.count_lines-lines.ensures in
     record {
       prints = (elim c.then-out-lt16.branch [ then-out-lt16-via-then-out-lt16 w ↦ omega arith | then-out-lt16-via-else-out-lt16+then-out-lines w ↦ omega arith ], refl);
       law = lawfully g.I.Index.capacity (length c.args.work.now) c.args.book.now c.args.orders.now;
@@ -27,11 +27,11 @@ returns-then-out-lt16 g c =
 pub returns-in-Err : goal.returns-in-Err
 returns-in-Err g c =
     let lines = length (lines_of c.args.orders.now) in
-    let many = c.count-lines-lines.ensures in
+    let many = c.count_lines-lines.ensures in
     let capacity = g.I.Index.capacity in
     let work = length c.args.work.now in
     let e = printed_fault capacity work c.args.book.now c.args.orders.now c.in-Err.fault c.in-Err.ensures in
-    let told = c.write-fault.ensures in
+    let told = c.write_fault.ensures in
     let short = told.short in
     record {
       prints = (max-le (omega arith) (omega arith), told.end ∙ ap length (sym e), omega arith, told.bytes ∙ ap (placed c.args.out.now 0) (sym e));
@@ -41,7 +41,7 @@ returns-in-Err g c =
 pub returns-in-Ok : goal.returns-in-Ok
 returns-in-Ok g c =
     let lines = length (lines_of c.args.orders.now) in
-    let many = c.count-lines-lines.ensures in
+    let many = c.count_lines-lines.ensures in
     let capacity = g.I.Index.capacity in
     let work = length c.args.work.now in
     let book = c.args.book.now in
@@ -49,8 +49,8 @@ returns-in-Ok g c =
     let e = printed_replies capacity work book c.args.orders.now opened.0 in
     let ruled : g.I.Index.refuses c.args.index ≡ rule capacity = fun_ext (λ n. fun_ext (λ R. fun_ext (λ k. g.met.I.Index.rules c.args.index n R k))) in
     let follows = subst (λ (o : Refuses). Follows g.I.Index.meaning g.I.Index.refuses (count_in book) o (entries (derivations_in book)) c.in-Ok.shop) ruled opened.1 in
-    let told = c.answer-lines.ensures.by_history (count_in book) (rule capacity) (entries (derivations_in book)) follows in
+    let told = c.answer_lines.ensures.by_history (count_in book) (rule capacity) (entries (derivations_in book)) follows in
     record {
-      prints = (max-le (omega arith) (omega arith), told.0 ∙ ap length (sym e), c.answer-lines.ensures.within, told.1 ∙ ap (placed c.args.out.now 0) (sym e));
+      prints = (max-le (omega arith) (omega arith), told.0 ∙ ap length (sym e), c.answer_lines.ensures.within, told.1 ∙ ap (placed c.args.out.now 0) (sym e));
       law = lawfully capacity work book c.args.orders.now;
     }

@@ -17,7 +17,7 @@ pub returns : goal.returns
 returns c =
     let e : c.word.result.now ++ (decimal c.number.result ++ codes "\n") ≡ fault_text c.args.fault = ap₂ (λ (w : List ℕ) (n : ℕ). w ++ (decimal n ++ codes "\n")) c.word.ensures c.number.ensures in
     let small : day_number c.args.fault < 65536 = omega arith in
-    let w = subst (λ (t : List ℕ). Wrote c.args.out.now 0 t (Some c.in-Some.len) c.write-numbered.new.out) e c.in-Some.ensures in
+    let w = subst (λ (t : List ℕ). Wrote c.args.out.now 0 t (Some c.in-Some.len) c.write_numbered.new.out) e c.in-Some.ensures in
     let end = w.0 in
     let few = fault_short c.args.fault small in
     record { end = omega arith; bytes = w.2; short = omega arith }

@@ -1,4 +1,4 @@
-use Rattle.std.proofs.Common.{◌≡◌, ℕ, ◌+◌, ◌<◌, ◌≤◌, [], length, get_or, sym, refl, ◌∙◌, subst, arith}
+use Rattle.std.proofs.Common.{◌≡◌, ℕ, [], length, get_or, sym, refl, ◌∙◌, subst, arith}
 use native.Mathlib.Nat.{min-le_left, min-le_right}
 use Rattle.book.specs.Counts.{models}
 use Rattle.index.specs.Builds.{rule}

@@ -4,27 +4,27 @@ use Rattle.std.proofs.lemmas.Bool.{ltb-true}
 use Rattle.lines.proofs.Lines.{end_within, first_cut, rest_shorter}
 use Rattle.lines.proofs.reading.splitting.first_line.Goals as goal
 
-pub split-at-requires : goal.split-at-requires
-split-at-requires c = omega (arith, c.line-end.ensures, end_within c.args.bytes.now)
+pub split_at-requires : goal.split_at-requires
+split_at-requires c = omega (arith, c.line_end.ensures, end_within c.args.bytes.now)
 
-pub returns-in-default : goal.returns-in-default
-returns-in-default c =
+pub returns-in_default : goal.returns-in_default
+returns-in_default c =
     let xs = c.args.bytes.now in
-    let behind = c.split-at.result.1.now in
+    let behind = c.split_at.result.1.now in
     let z : length behind < 1 = omega (arith, ltb-true) in
     let r : behind ≡ drop 1 behind = nil_from_length behind (omega arith) ∙ sym (drop_all 1 behind (omega arith)) in
     record {
-      first = first_cut xs _ behind behind c.line-end.result c.line-end.ensures c.split-at.ensures.front c.split-at.ensures.back r;
-      shorter = rest_shorter xs behind behind c.line-end.result c.split-at.ensures.back r;
+      first = first_cut xs _ behind behind c.line_end.result c.line_end.ensures c.split_at.ensures.front c.split_at.ensures.back r;
+      shorter = rest_shorter xs behind behind c.line_end.result c.split_at.ensures.back r;
     }
 
 pub returns-in-len1-up : goal.returns-in-len1-up
 returns-in-len1-up c =
     let xs = c.args.bytes.now in
-    let behind = c.split-at.result.1.now in
+    let behind = c.split_at.result.1.now in
     let rest = take (length behind - 1) (drop 1 behind) in
     let r : rest ≡ drop 1 behind = take_rest behind 1 in
     record {
-      first = first_cut xs _ behind rest c.line-end.result c.line-end.ensures c.split-at.ensures.front c.split-at.ensures.back r;
-      shorter = rest_shorter xs behind rest c.line-end.result c.split-at.ensures.back r;
+      first = first_cut xs _ behind rest c.line_end.result c.line_end.ensures c.split_at.ensures.front c.split_at.ensures.back r;
+      shorter = rest_shorter xs behind rest c.line_end.result c.split_at.ensures.back r;
     }

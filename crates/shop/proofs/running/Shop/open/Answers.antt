@@ -1,4 +1,4 @@
-use Rattle.std.proofs.Common.{ap, ◌∙◌}
+use Rattle.std.proofs.Common.{ap}
 use Rattle.book.specs.Counts.{models}
 use Rattle.shop.proofs.Calls.{opened}
 use Rattle.shop.proofs.running.Shop.open.Goals as goal
