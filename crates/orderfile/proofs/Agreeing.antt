@@ -1,6 +1,5 @@
 -- Two kinds of index give the same replies, line by line, where neither is refused for surplus.
 use Rattle.std.proofs.Common.{◌≡◌, ℕ, List, [], ◌∷◌, Some, None, Option, sym, refl, ap, ◌∙◌, subst, ap₂, inl, inr}
-use Rattle.lineage.specs.Lists.{◌∈◌}
 use Rattle.bookfile.specs.Files.{count_in, derivations_in}
 use Rattle.index.specs.Builds.{rule}
 use Rattle.history.specs.declared.answer.Answer.{Answer}

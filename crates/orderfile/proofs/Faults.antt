@@ -1,5 +1,5 @@
 -- The one line of a day that is not answered is short.
-use Rattle.std.proofs.Common.{ℕ, ◌+◌, ◌<◌, ◌≤◌, ◌++◌, length, codes, decimal, arith, length-append}
+use Rattle.std.proofs.Common.{◌<◌, ◌≤◌, ◌++◌, length, codes, decimal, arith, length-append}
 use Rattle.text.proofs.Lengths.{length_few}
 use Rattle.orderfile.specs.declared.day.DayFault.{DayFault}
 use Rattle.orderfile.specs.declared.day.DayFault.TheVariants.{Book, OrdersTooLong}

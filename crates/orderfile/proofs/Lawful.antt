@@ -1,5 +1,5 @@
 -- The law over the lines of a day.
-use Rattle.std.proofs.Common.{◌≡◌, ℕ, suc, ◌<◌, Bool, true, false, not, ltb, List, [], ◌∷◌, ◌++◌, map, reverse, length, Some, None, Option, sym, refl, ap, ◌∙◌, subst, append_assoc, arith}
+use Rattle.std.proofs.Common.{◌≡◌, ℕ, suc, ◌<◌, true, not, ltb, List, [], ◌∷◌, ◌++◌, reverse, length, Some, None, Option, sym, refl, ap, ◌∙◌, append_assoc, arith}
 use mathlib.Core.List.{reverse-cons}
 use Rattle.std.specs.Option.{option_map}
 use Rattle.std.specs.List.{slice_get}
@@ -14,7 +14,7 @@ use Rattle.index.specs.Builds.{rule}
 use Rattle.history.specs.declared.answer.Answer.{Answer}
 use Rattle.history.specs.declared.answer.Answer.TheVariants.{Done as AnswerDone, Carve as AnswerCarve, Stop as AnswerStop, Refused as AnswerRefused}
 use Rattle.history.specs.declared.call.Call.{Call}
-use Rattle.history.specs.declared.call.Call.TheVariants.{Enter as ToEnter, Order as ToOrder}
+use Rattle.history.specs.declared.call.Call.TheVariants.{Order as ToOrder}
 use Rattle.history.specs.Answers.{carved, named, refused}
 use Rattle.history.specs.Events.{Event, History, happened}
 use Rattle.history.specs.Standing.{current}
@@ -27,11 +27,10 @@ use Rattle.history.proofs.Histories.{lawful_more}
 use Rattle.history.proofs.Kept.{kept_lawful, check_none}
 use Rattle.history.proofs.Orders.{carve_is, stop_is}
 use Rattle.history.proofs.Made.{answer_lawful, lawful_law, orders_are_answered}
-use Rattle.lines.specs.declared.fault.LineFault.TheVariants.{NoForm}
 use Rattle.lines.specs.declared.form.Form.{Form}
 use Rattle.lines.specs.declared.form.Form.TheVariants.{Order}
 use Rattle.lines.specs.declared.reply.Reply.{Reply}
-use Rattle.lines.specs.declared.reply.Reply.TheVariants.{Done, Carve, Stop, Refused}
+use Rattle.lines.specs.declared.reply.Reply.TheVariants.{Carve, Stop}
 use Rattle.lines.specs.Computed.{form_of}
 use Rattle.lines.specs.Forms.{numbers_of, Small, call_of}
 use Rattle.lines.specs.Lines.{lines_of}

@@ -1,5 +1,5 @@
 -- What a day prints, by whether it has a fault.
-use Rattle.std.proofs.Common.{◌≡◌, ℕ, List, Some, None, Option, sym, refl, ap, ◌∙◌}
+use Rattle.std.proofs.Common.{◌≡◌, ℕ, List, Some, None, Option, ap}
 use Rattle.std.specs.List.{flat_map}
 use Rattle.lines.specs.Replies.{reply_text}
 use Rattle.orderfile.specs.declared.day.DayFault.{DayFault}

@@ -1,13 +1,12 @@
 -- Lines answered in turn: what the shop replies is what its history says, and the replies stand one behind another.
 use Rattle.std.proofs.Common.{◌≡◌, ℕ, ◌+◌, ◌-◌, ◌*◌, ◌≤◌, List, [], ◌∷◌, ◌++◌, length, take, drop, Some, None, Option, sym, refl, ap, ◌∙◌, subst, append_assoc, arith}
-use borrow.Rule.Slice.PartMut.{put_mid, post_of}
+use borrow.Rule.Slice.PartMut.{post_of}
 use Rattle.std.specs.List.{flat_map}
 use Rattle.std.proofs.lemmas.List.{append-nil, length-append, length-drop, drop_all, drop-drop}
 use Rattle.text.specs.Placing.{placed}
 use Rattle.text.proofs.Placing.{placed_none, placed_append, length_placed}
 use Rattle.index.specs.Meanings.{Meaning}
 use Rattle.history.specs.declared.answer.Answer.{Answer}
-use Rattle.history.specs.declared.call.Call.{Call}
 use Rattle.history.specs.Events.{History, happened}
 use Rattle.history.specs.Table.{Refuses}
 use Rattle.history.specs.Made.{answer_to}
@@ -22,9 +21,9 @@ use Rattle.lines.specs.Forms.{call_of}
 use Rattle.lines.specs.Reading.{line_bytes}
 use Rattle.lines.specs.Replies.{reply_text, reply_of}
 use Rattle.shop.specs.declared.running.Shop.{Shop}
-use Rattle.shop.specs.Shops.{Follows, Keeps}
+use Rattle.shop.specs.Shops.{Follows}
 use Rattle.orderfile.specs.declared.answering.AnsweredLine.{AnsweredLine}
-use Rattle.orderfile.specs.Answering.{Responds, Calls, Written}
+use Rattle.orderfile.specs.Answering.{Responds, Written}
 use Rattle.orderfile.specs.Days.{reply_to, behind, replies, AnswersLines}
 
 module _ {X : Type 0} (meaning : X → Meaning) (refuses : X → Refuses) where

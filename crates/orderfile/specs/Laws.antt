@@ -5,7 +5,6 @@ use Rattle.lineage.specs.Lists.{◌∈◌}
 use Rattle.bookfile.specs.Files.{count_in, derivations_in}
 use Rattle.index.specs.Builds.{rule}
 use Rattle.history.specs.declared.answer.Answer.{Answer}
-use Rattle.history.specs.declared.answer.Answer.TheVariants.{Done}
 use Rattle.history.specs.declared.call.Call.{Call}
 use Rattle.history.specs.declared.call.Call.TheVariants.{Enter as ToEnter}
 use Rattle.history.specs.Events.{Event, History, happened}

@@ -1,4 +1,4 @@
-use Rattle.std.proofs.Common.{◌≡◌, ℕ, ◌+◌, ◌-◌, ◌*◌, ◌≤◌, List, [], ◌∷◌, length, take, drop, sym, refl, ap, ◌∙◌, subst, arith}
+use Rattle.std.proofs.Common.{◌≡◌, ℕ, ◌-◌, List, ◌∷◌, length, take, drop, refl, ap, subst, arith}
 use Rattle.std.proofs.lemmas.List.{length-drop, take_all}
 use Rattle.lines.specs.Lines.{lines_of}
 use Rattle.lines.specs.Reading.{lines_left, line_bytes}
@@ -18,7 +18,7 @@ slice_bounds-answer_line-count g c =
     omega arith
 
 -- the line was answered with room for a reply, in what is left of the buffer
-written : (g : _) (c : goal.After-struct-known·1 g) → Written g.I.Index.meaning g.I.Index.refuses c.loop-line.shop (length c.args.work.now) c.in-Some.line (drop c.loop-line.end c.loop-line.out) c.answer_line-answered.result c.answer_line-answered.new.shop c.answer_line-answered.new.out
+written : (g : _) (c : goal.After-struct_known-1 g) → Written g.I.Index.meaning g.I.Index.refuses c.loop-line.shop (length c.args.work.now) c.in-Some.line (drop c.loop-line.end c.loop-line.out) c.answer_line-answered.result c.answer_line-answered.new.shop c.answer_line-answered.new.out
 written g c =
     let a = c.loop-line.invariant in
     let h = a.room in

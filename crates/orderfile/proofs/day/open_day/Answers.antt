@@ -4,12 +4,11 @@ use Rattle.std.proofs.lemmas.Bool.{le-ltb}
 use Rattle.book.specs.declared.derivation.Derivation.{Derivation}
 use Rattle.book.specs.Refusals.{first}
 use Rattle.bookfile.specs.declared.refusal.FileRefusal.{FileRefusal}
-use Rattle.bookfile.specs.Files.{file, count_in, derivations_in}
+use Rattle.bookfile.specs.Files.{count_in, derivations_in}
 use Rattle.bookfile.specs.Checked.{count_shown, shown}
 use Rattle.bookfile.proofs.Files.{count_in_file, derivations_in_file}
 use Rattle.shop.specs.Shops.{Follows}
 use Rattle.shop.specs.Loads.{entries}
-use Rattle.orderfile.specs.declared.day.DayFault.{DayFault}
 use Rattle.orderfile.specs.declared.day.DayFault.TheVariants.{Book, OrdersTooLong}
 use Rattle.orderfile.proofs.day.open_day.Goals as goal
 

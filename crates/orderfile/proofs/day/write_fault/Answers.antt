@@ -1,6 +1,6 @@
-use Rattle.std.proofs.Common.{◌≡◌, ℕ, ◌<◌, ◌≤◌, List, ◌++◌, length, Some, None, codes, decimal, sym, ap, ◌∙◌, subst, ap₂, arith}
+use Rattle.std.proofs.Common.{◌≡◌, ℕ, ◌<◌, List, ◌++◌, length, Some, codes, decimal, ap, subst, ap₂, arith}
 use Rattle.text.specs.Numerals.{Wrote}
-use Rattle.orderfile.specs.Days.{day_number, fault_word, fault_text}
+use Rattle.orderfile.specs.Days.{day_number, fault_text}
 use Rattle.orderfile.proofs.Faults.{fault_short}
 use Rattle.orderfile.proofs.day.write_fault.Goals as goal
 
