@@ -1,20 +1,20 @@
-use Rattle.std.proofs.Common.{◌≡◌, ℕ, ◌≤◌, length, drop, ap, ◌∙◌, arith, rules}
+use Rattle.std.proofs.Common.{◌≡◌, ℕ, ◌≤◌, length, ap, ◌∙◌, arith, rules}
 use Rattle.std.proofs.lemmas.Result.{IfOk-from_err}
 use Rattle.orderfile.specs.Days.{printed}
 use Rattle.folder.proofs.Fronts.{front_placed}
 use Rattle.folder.proofs.answers.answers.Goals as goal
 
-pub returns-in-err-out : goal.returns-in-err-out
-returns-in-err-out g c = IfOk-from_err c.from-residual-in-err-out.result _ c.from-residual-in-err-out.ensures.0
+pub returns-in_err-out : goal.returns-in_err-out
+returns-in_err-out g c = IfOk-from_err c.from_residual-in_err-out.result _ c.from_residual-in_err-out.ensures.0
 
 pub returns : goal.returns
 returns g c =
     let told = c.in-Ok.ensures.prints in
-    let full : length c.as-mut-slice.result.now ≡ 32768 = search rules in
-    let long : length c.as-mut-slice-2.result.now ≡ c.in-ok-out.out.len = c.as-mut-slice-2.ensures.len in
+    let full : length c.as_mut_slice.result.now ≡ 32768 = search rules in
+    let long : length c.as_mut_slice-2.result.now ≡ c.in_ok-out.out.len = c.as_mut_slice-2.ensures.len in
     let fits = told.2 in
-    let low : c.in-Ok.len ≤ c.in-ok-out.out.len = omega arith in
-    let text = printed g.I.Index.capacity (length c.as-mut-slice.result.now) c.args.book.now c.args.orders.now in
+    let low : c.in-Ok.len ≤ c.in_ok-out.out.len = omega arith in
+    let text = printed g.I.Index.capacity (length c.as_mut_slice.result.now) c.args.book.now c.args.orders.now in
     c.truncate.ensures.items
-    ∙ front_placed text c.as-mut-slice-2.result.now c.answer-day.new.out _ c.in-Ok.len c.in-ok-out.out.len told.1 low told.3
+    ∙ front_placed text c.as_mut_slice-2.result.now c.answer_day.new.out _ c.in-Ok.len c.in_ok-out.out.len told.1 low told.3
     ∙ ap (λ (k : ℕ). printed g.I.Index.capacity k c.args.book.now c.args.orders.now) full
