@@ -1,7 +1,7 @@
 -- T of any list of links: what is computed is the least set, rising; X and Y are its two sides. Assumes nothing.
 use Rattle.std.proofs.Common.{◌≡◌, ℕ, ◌<◌, ◌≤◌, Bool, true, false, ◌&&◌, ◌||◌, eqb, ltb, leb, ◌⊎◌, List, [], ◌∷◌, ◌++◌, map, length, get_or, filter, sym, refl, ap, ◌∙◌, subst, inl, inr, arith}
 use lib.ListN.{length-map}
-use Rattle.std.specs.List.{range_with_len, AllByRecursion as All}
+use Rattle.std.specs.List.{range_with_len, AllByRecursion}
 use Rattle.std.proofs.ByRecursion.{All-append, All-map, All-weaker}
 use Rattle.std.proofs.lemmas.Bool.{true≢false, and_parts, and_from, or_cases, or_left, or_right, ltb-true, lt-ltb, leb-true, le-leb, eqb-true, eq-eqb}
 use Rattle.lineage.specs.Finite.{Chain, none, step, total, count, those, Within}
@@ -318,7 +318,7 @@ rise_append : (xs ys : List Link) → Rises below xs → Rises below ys → ((l 
 rise_append [] ys r s h = s
 rise_append (x ∷ xs) ys r s h = (All-append (λ y. below x y ≡ true) xs ys r.0 (all_of x ys (λ m i. h x m (inl refl) i)), rise_append xs ys r.1 s (λ l m i j. h l m (inr i) j))
   where
-    all_of : (x : Link) (ys : List Link) → ((m : Link) → m ∈ ys → below x m ≡ true) → All (λ y. below x y ≡ true) ys
+    all_of : (x : Link) (ys : List Link) → ((m : Link) → m ∈ ys → below x m ≡ true) → AllByRecursion (λ y. below x y ≡ true) ys
     all_of x [] h = tt
     all_of x (y ∷ ys) h = (h y (inl refl), all_of x ys (λ m i. h m (inr i)))
 

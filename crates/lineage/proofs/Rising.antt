@@ -1,6 +1,6 @@
 -- Membership in lists, and rising lists: what stands in `rising`, that it rises, that there is one such list, and how long it is. Assumes nothing.
 use Rattle.std.proofs.Common.{◌≡◌, ℕ, zero, suc, ◌+◌, ◌<◌, ◌≤◌, Bool, true, false, cond, ltb, ◌⊎◌, List, [], ◌∷◌, ◌++◌, map, length, get_or, filter, sym, refl, ap, ◌∙◌, subst, ap₂, inl, inr, arith}
-use Rattle.std.specs.List.{range_with_len, AllByRecursion as All}
+use Rattle.std.specs.List.{range_with_len, AllByRecursion}
 use Rattle.std.proofs.lemmas.Bool.{true≢false, cases_lt, ltb-true, ltb-false, lt-ltb}
 use Rattle.std.proofs.ByRecursion.{all_kept_by}
 use Rattle.lineage.specs.Lists.{◌∈◌, Distinct, gathered, inserted, sorted}
@@ -111,9 +111,9 @@ pub record Strict {A : Type 0} (below : A → A → Bool) : Type 0 where
 -- each is below all that come after it
 abbrev pub Rises : {A : Type 0} → (A → A → Bool) → List A → Type 0
 Rises below [] = Unit {0}
-Rises below (x ∷ xs) = All (λ y. below x y ≡ true) xs × Rises below xs
+Rises below (x ∷ xs) = AllByRecursion (λ y. below x y ≡ true) xs × Rises below xs
 
-pub all_in : {A : Type 0} (P : A → Type 0) (xs : List A) (x : A) → All P xs → x ∈ xs → P x
+pub all_in : {A : Type 0} (P : A → Type 0) (xs : List A) (x : A) → AllByRecursion P xs → x ∈ xs → P x
 all_in P [] x a h = absurd h
 all_in P (y ∷ ys) x a (inl e) = subst P e a.0
 all_in P (y ∷ ys) x a (inr h) = all_in P ys x a.1 h
@@ -152,16 +152,16 @@ module _ {A : Type 0} (below : A → A → Bool) (S : Strict below) where
   sorted_in (x ∷ xs) z h = elim (inserted_in x (sorted below xs) z h) [ inl e ↦ inl e | inr k ↦ inr (sorted_in xs z k) ]
 
   -- it rises
-  all_inserted : (w x : A) (xs : List A) → below w x ≡ true → All (λ y. below w y ≡ true) xs → All (λ y. below w y ≡ true) (inserted below x xs)
+  all_inserted : (w x : A) (xs : List A) → below w x ≡ true → AllByRecursion (λ y. below w y ≡ true) xs → AllByRecursion (λ y. below w y ≡ true) (inserted below x xs)
   all_inserted w x [] e a = (e, tt)
   all_inserted w x (y ∷ ys) e a = go (below x y) (below y x) (all_inserted w x ys e a.1)
     where
-      go : (b c : Bool) → All (λ y. below w y ≡ true) (inserted below x ys) → All (λ y. below w y ≡ true) (cond b (x ∷ y ∷ ys) (cond c (y ∷ inserted below x ys) (y ∷ ys)))
+      go : (b c : Bool) → AllByRecursion (λ y. below w y ≡ true) (inserted below x ys) → AllByRecursion (λ y. below w y ≡ true) (cond b (x ∷ y ∷ ys) (cond c (y ∷ inserted below x ys) (y ∷ ys)))
       go true c more = (e, a)
       go false true more = (a.0, more)
       go false false more = a
 
-  all_below : (x y : A) (ys : List A) → below x y ≡ true → All (λ z. below y z ≡ true) ys → All (λ z. below x z ≡ true) ys
+  all_below : (x y : A) (ys : List A) → below x y ≡ true → AllByRecursion (λ z. below y z ≡ true) ys → AllByRecursion (λ z. below x z ≡ true) ys
   all_below x y [] e a = tt
   all_below x y (z ∷ zs) e a = (S.trans x y z e a.0, all_below x y zs e a.1)
 
@@ -195,7 +195,7 @@ module _ {A : Type 0} (below : A → A → Bool) (S : Strict below) where
   ]
 
   -- two rising lists with the same elements are one list
-  tail_same : (x : A) (xs ys : List A) → All (λ z. below x z ≡ true) xs → ((z : A) → z ∈ (x ∷ xs) → z ∈ (x ∷ ys)) → (z : A) → z ∈ xs → z ∈ ys
+  tail_same : (x : A) (xs ys : List A) → AllByRecursion (λ z. below x z ≡ true) xs → ((z : A) → z ∈ (x ∷ xs) → z ∈ (x ∷ ys)) → (z : A) → z ∈ xs → z ∈ ys
   tail_same x xs ys a f z h = elim (f z (inr h)) [
     | inl e ↦ absurd (S.never_self x (subst (λ w. below x w ≡ true) (sym e) (all_in (λ z. below x z ≡ true) xs z a h)))
     | inr k ↦ k
@@ -215,7 +215,7 @@ module _ {A : Type 0} (below : A → A → Bool) (S : Strict below) where
       let e : x ≡ y = heads_same x y xs ys r s (f x (inl refl)) (g y (inl refl)) in
       let f' : (z : A) → z ∈ (x ∷ xs) → z ∈ (x ∷ ys) = λ z h. subst (λ w. z ∈ (w ∷ ys)) (sym e) (f z h) in
       let g' : (z : A) → z ∈ (x ∷ ys) → z ∈ (x ∷ xs) = λ z h. g z (subst (λ w. z ∈ (w ∷ ys)) e h) in
-      let s' : All (λ z. below x z ≡ true) ys = subst (λ w. All (λ z. below w z ≡ true) ys) (sym e) s.0 in
+      let s' : AllByRecursion (λ z. below x z ≡ true) ys = subst (λ w. AllByRecursion (λ z. below w z ≡ true) ys) (sym e) s.0 in
       ap₂ (λ z zs. z ∷ zs) e (rises_unique xs ys r.1 s.1 (tail_same x xs ys r.0 f') (tail_same x ys xs s' g'))
 
   pub sorted_unique : (xs ys : List A) → ((z : A) → z ∈ xs → z ∈ ys) → ((z : A) → z ∈ ys → z ∈ xs) → sorted below xs ≡ sorted below ys
@@ -244,7 +244,7 @@ strict_ltb = record {
   equal = λ x y e f. omega (arith, ltb-false x y e, ltb-false y x f);
 }
 
-counting_above : (m a k : ℕ) → k < a → All (λ y. ltb k y ≡ true) (range_with_len a m)
+counting_above : (m a k : ℕ) → k < a → AllByRecursion (λ y. ltb k y ≡ true) (range_with_len a m)
 counting_above zero a k l = tt
 counting_above (suc m) a k l = (lt-ltb k a l, counting_above m (a + 1) k (omega arith))
 

@@ -1,6 +1,6 @@
 -- The lines of a file from its first line on: as the reader meets them, and put together again.
 use Rattle.std.proofs.Common.{◌≡◌, ℕ, suc, ◌+◌, ◌<◌, ◌≤◌, Bool, true, false, cond, eqb, List, [], ◌∷◌, ◌++◌, length, get_or, take, drop, sym, refl, ap, ◌∙◌, append_assoc, add-one, arith}
-use Rattle.std.specs.List.{flat_map, AllByRecursion as All}
+use Rattle.std.specs.List.{flat_map, AllByRecursion}
 use Rattle.std.proofs.lemmas.List.{length-drop, drop_more, at_drop_more, at_drop_all, drop-drop, nil_from_length}
 use Rattle.std.proofs.lemmas.Bool.{eqb-true, eqb-false, eq-eqb, ne_eqb, cond-true, cond-false, false≢true}
 use Rattle.lines.specs.Lines.{onto, lines_of, end_of, between, last_end, Clear, ended}
@@ -124,13 +124,13 @@ lines_whole (b ∷ (c ∷ cs)) =
     let n : 0 < length (lines_of (c ∷ cs)) = omega (arith, ap length (split_first c cs)) in
     whole_by (eqb b 10) b (c ∷ cs) (last_end (c ∷ cs)) (lines_of (c ∷ cs)) refl n (lines_whole (c ∷ cs))
 
-clear_by : (t : Bool) (b : ℕ) (ls : List (List ℕ)) → eqb b 10 ≡ t → All Clear ls → All Clear (cond t ([] ∷ ls) (onto b ls))
+clear_by : (t : Bool) (b : ℕ) (ls : List (List ℕ)) → eqb b 10 ≡ t → AllByRecursion Clear ls → AllByRecursion Clear (cond t ([] ∷ ls) (onto b ls))
 clear_by true b ls e h = (tt, h)
 clear_by false b [] e h = ((eqb-false b 10 e, tt), tt)
 clear_by false b (l ∷ ls) e h = ((eqb-false b 10 e, h.0), h.1)
 
 -- a line has no 0A
-pub lines_clear : (file : List ℕ) → All Clear (lines_of file)
+pub lines_clear : (file : List ℕ) → AllByRecursion Clear (lines_of file)
 unfolding lines_of
 lines_clear [] = tt
 lines_clear (b ∷ bs) = clear_by (eqb b 10) b (lines_of bs) refl (lines_clear bs)
@@ -143,7 +143,7 @@ one_ended (b ∷ bs) more h =
     ap (λ t. cond t ([] ∷ rest) (onto b rest)) (ne_eqb b 10 h.0) ∙ ap (onto b) (one_ended bs more h.1)
 
 -- lines without 0A, each with its end, are the lines of what they make
-pub lines_ended : (ls : List (List ℕ)) → All Clear ls → lines_of (flat_map ended ls) ≡ ls
+pub lines_ended : (ls : List (List ℕ)) → AllByRecursion Clear ls → lines_of (flat_map ended ls) ≡ ls
 unfolding lines_of
 lines_ended [] h = refl
 lines_ended (l ∷ ls) h =

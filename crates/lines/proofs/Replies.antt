@@ -1,7 +1,7 @@
 -- The text of a reply: how long it is, that it is one line, and that it says what the shop answered.
 use Rattle.std.proofs.Common.{◌≡◌, ℕ, ◌<◌, ◌≤◌, Bool, true, not, ◌&&◌, eqb, List, [], ◌∷◌, ◌++◌, map, length, Some, None, codes, decimal, Option, refl, ap, ◌∙◌, arith}
 use Rattle.std.specs.Char.{is_ascii_digit}
-use Rattle.std.specs.List.{flat_map, AllByRecursion as All}
+use Rattle.std.specs.List.{flat_map, AllByRecursion}
 use Rattle.std.specs.Str.{all_ascii_digits}
 use Rattle.std.proofs.lemmas.Fmt.{digits_decimal}
 use Rattle.std.proofs.lemmas.List.{length-append, length_push}
@@ -88,12 +88,12 @@ joined_ended : (rs : List Reply) → flat_map reply_text rs ≡ flat_map ended (
 joined_ended [] = refl
 joined_ended (r ∷ rs) = ap (λ xs. reply_text r ++ xs) (joined_ended rs)
 
-clear_all : (rs : List Reply) → All Nameable rs → All Clear (map reply_line rs)
+clear_all : (rs : List Reply) → AllByRecursion Nameable rs → AllByRecursion Clear (map reply_line rs)
 clear_all [] h = tt
 clear_all (r ∷ rs) h = (reply_clear r h.0, clear_all rs h.1)
 
 -- replies one behind another are as many lines
-pub replies_lines : (rs : List Reply) → All Nameable rs → lines_of (flat_map reply_text rs) ≡ map reply_line rs
+pub replies_lines : (rs : List Reply) → AllByRecursion Nameable rs → lines_of (flat_map reply_text rs) ≡ map reply_line rs
 replies_lines rs h = ap lines_of (joined_ended rs) ∙ lines_ended (map reply_line rs) (clear_all rs h)
 
 -- a reply stands for what the answer stands for that it was made of

@@ -1,6 +1,6 @@
 -- The letter and the numbers of a form, and the call that it says.
 use Rattle.std.specs.Prelude.{ℕ, ◌<◌, List, [], ◌∷◌}
-use Rattle.std.specs.List.{AllByRecursion as All}
+use Rattle.std.specs.List.{AllByRecursion}
 use Rattle.history.specs.declared.call.Call.{Call}
 use Rattle.history.specs.declared.call.Call.TheVariants.{Enter as CallEnter, Strike as CallStrike, Index as CallIndex, Hold as CallHold, Release as CallRelease, Order as CallOrder}
 use Rattle.lines.specs.declared.form.Form.{Form}
@@ -25,7 +25,7 @@ numbers_of (Order m) = m ∷ []
 
 -- numbers that are at most 65,535
 abbrev pub Small : List ℕ → Type 0
-Small ns = All (λ n. n < 65536) ns
+Small ns = AllByRecursion (λ n. n < 65536) ns
 
 -- the call of a form, of which an indexing is lent this much work space
 abbrev pub call_of : ℕ → Form → Call

@@ -1,6 +1,6 @@
 -- The lines of a file: what stands before, between and behind its bytes 0A, with nothing behind the last.
 use Rattle.std.specs.Prelude.{ℕ, suc, cond, List, [], ◌∷◌, ◌++◌, ◌==◌, ◌≢◌}
-use Rattle.std.specs.List.{AllByRecursion as All}
+use Rattle.std.specs.List.{AllByRecursion}
 
 -- a byte put before the first line
 abbrev pub onto : ℕ → List (List ℕ) → List (List ℕ)
@@ -30,7 +30,7 @@ last_end (b ∷ (c ∷ cs)) = last_end (c ∷ cs)
 
 -- a line has no 0A
 abbrev pub Clear : List ℕ → Type 0
-Clear l = All (λ b. b ≢ 10) l
+Clear l = AllByRecursion (λ b. b ≢ 10) l
 
 -- a line with its end
 abbrev pub ended : List ℕ → List ℕ

@@ -1,6 +1,6 @@
 -- Theorems on lines: of a file, and of replies.
 use Rattle.std.specs.Prelude.{◌≡◌, ℕ, List, ◌++◌, map}
-use Rattle.std.specs.List.{flat_map, AllByRecursion as All}
+use Rattle.std.specs.List.{flat_map, AllByRecursion}
 use Rattle.history.specs.declared.answer.Answer.{Answer}
 use Rattle.history.specs.Answers.{told as answer_told}
 use Rattle.lines.specs.declared.reply.Reply.{Reply}
@@ -12,15 +12,15 @@ abbrev pub LinesMakeTheFile : Type 0
 LinesMakeTheFile = (file : List ℕ) → between (lines_of file) ++ last_end file ≡ file
 
 abbrev pub NoEndInALine : Type 0
-NoEndInALine = (file : List ℕ) → All Clear (lines_of file)
+NoEndInALine = (file : List ℕ) → AllByRecursion Clear (lines_of file)
 
 -- what is written line by line, each with its end, has just these lines
 abbrev pub EndedLinesAreLines : Type 0
-EndedLinesAreLines = (ls : List (List ℕ)) → All Clear ls → lines_of (flat_map ended ls) ≡ ls
+EndedLinesAreLines = (ls : List (List ℕ)) → AllByRecursion Clear ls → lines_of (flat_map ended ls) ≡ ls
 
 -- replies written one behind another are as many lines
 abbrev pub RepliesAreLines : Type 0
-RepliesAreLines = (rs : List Reply) → All Nameable rs → lines_of (flat_map reply_text rs) ≡ map reply_line rs
+RepliesAreLines = (rs : List Reply) → AllByRecursion Nameable rs → lines_of (flat_map reply_text rs) ≡ map reply_line rs
 
 -- a reply stands for what the answer stands for that it was made of
 abbrev pub RepliesTellTheAnswer : Type 0
