@@ -10,12 +10,13 @@ use Rattle.lines.specs.Computed.{form_of}
 use Rattle.lines.specs.Lines.{lines_of}
 use Rattle.orderfile.specs.Days.{printed}
 use Rattle.examples.specs.Worked.{WorkedExamples}
-use Rattle.examples.proofs.Book.{worked_book}
+use Rattle.lineage.proofs.Worked.{worked}
 
 pub worked_examples : WorkedExamples
 unfolding digits plain leads group arc surplus rule stands holder held current how_many_stand how_many_held form_of lines_of printed
 worked_examples = record {
-  book = worked_book;
+  notions = worked;
+  derivations = refl;
   holds = (refl, refl);
   file = (refl, refl);
   day_of_holds = (refl, refl);

@@ -7,25 +7,25 @@ use Rattle.lineage.proofs.Numbers.{any_hit, any_some, least_is, same_tests}
 use Rattle.lineage.proofs.Tree.{parent_arc, parent_in}
 
 -- x is the least number from i on below n that passes the test p, or n
-pub record LeastFrom (n : ℕ) (p : ℕ → Bool) (i x : ℕ) : Type 0 where
+pub record LeastPassing (n : ℕ) (p : ℕ → Bool) (i x : ℕ) : Type 0 where
   pub within : x ≤ n
   pub under : (k : ℕ) → i ≤ k → k < x → p k ≡ false
   pub hit : x < n → p x ≡ true
 
-pub from_none : (n : ℕ) (p : ℕ → Bool) → LeastFrom n p n n
+pub from_none : (n : ℕ) (p : ℕ → Bool) → LeastPassing n p n n
 from_none n p = record { within = omega arith; under = λ k a b. absurd (omega arith); hit = λ h. absurd (omega arith) }
 
-pub from_hit : (n : ℕ) (p : ℕ → Bool) (i : ℕ) → i < n → p i ≡ true → LeastFrom n p i i
+pub from_hit : (n : ℕ) (p : ℕ → Bool) (i : ℕ) → i < n → p i ≡ true → LeastPassing n p i i
 from_hit n p i l e = record { within = omega arith; under = λ k a b. absurd (omega arith); hit = λ h. e }
 
-pub from_miss : (n : ℕ) (p : ℕ → Bool) (i x : ℕ) → p i ≡ false → LeastFrom n p (i + 1) x → LeastFrom n p i x
+pub from_miss : (n : ℕ) (p : ℕ → Bool) (i x : ℕ) → p i ≡ false → LeastPassing n p (i + 1) x → LeastPassing n p i x
 from_miss n p i x e f = record {
   within = f.within;
   under = λ k a b. elim (cases_eq k i) [ inl s ↦ subst (λ (z : ℕ). p z ≡ false) (sym s) e | inr ne ↦ f.under k (omega arith) b ];
   hit = f.hit;
 }
 
-pub least_same : (n : ℕ) (p : ℕ → Bool) (x : ℕ) → LeastFrom n p 0 x → x ≡ least n p
+pub least_same : (n : ℕ) (p : ℕ → Bool) (x : ℕ) → LeastPassing n p 0 x → x ≡ least n p
 least_same n p x f =
     let l = least_is n p in
     let a : least n p ≤ n = l.within in
@@ -38,7 +38,7 @@ least_same n p x f =
       ]
     ]
 
-pub parent_least : (n : ℕ) (R : ℕ → ℕ → Bool) (b x : ℕ) → LeastFrom n (λ a. arc n R a b) 0 x → x ≡ parent n R b
+pub parent_least : (n : ℕ) (R : ℕ → ℕ → Bool) (b x : ℕ) → LeastPassing n (λ a. arc n R a b) 0 x → x ≡ parent n R b
 unfolding parent
 parent_least n R b x f = least_same n (λ a. arc n R a b) x f
 

@@ -1,6 +1,6 @@
 //! The mathematics of a model book. The definitions stand in specs/, the proofs in proofs/; no code runs.
 //! Each function here does nothing and carries one theorem on its contract. A book is a count `n` of models and a
-//! test `R u v`, "v was taken from u"; `Of-every-book P` says P of every count and every relation on the models below it.
+//! test `R u v`, "v was taken from u"; `OfEveryBook P` says P of every count and every relation on the models below it.
 #![tactic(auto)]
 
 ghost use Rattle.lineage.specs.Example.{Worked};
