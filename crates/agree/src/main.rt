@@ -55,8 +55,8 @@ fn compare(first: &[u8], second: &[u8]) -> Comparison {
 
 fn main(rt: HostRuntime) -> io::Result<()> {
     let heap = rt.alloc();
-    let book = reading::read(&rt, "book.bin", reading::BOOK)?;
-    let orders = reading::read(&rt, "orders.txt", reading::ORDERS)?;
+    let book = reading::read(&rt, "book.bin", reading::book_bytes())?;
+    let orders = reading::read(&rt, "orders.txt", reading::order_bytes())?;
     let first = answers(heap, PlainSearch::new(), book.as_slice(), orders.as_slice())?;
     let second = answers(heap, PlainSearch::new(), book.as_slice(), orders.as_slice())?;
     days_agree(); // the theorem: no line differs, unless an indexing is refused for surplus

@@ -16,10 +16,7 @@ pub fn answers<I: Index + Drop>(
 ) -> Result<Vec<u8>, AllocError>
     ensures { IfOk result (λ v. v.items ≡ printed I.Index.capacity 32768 book.now orders.now) }
 {
-    let room = match count_lines(orders).checked_mul(16) {
-        Some(bytes) => bytes.max(16),
-        None => return Err(AllocError),
-    };
+    let room = count_lines(orders).saturating_mul(16).max(16);
     let mut work = vec![in heap; 0u16; WORK]?;
     let mut out = vec![in heap; 0u8; room]?;
     match answer_day(index, book, orders, work.as_mut_slice(), out.as_mut_slice()) {

@@ -1,13 +1,23 @@
 //! The files of the folder that a program is started in.
+ghost use Rattle.folder.specs.Fronts.{DecidesBook, DecidesOrders};
+
 use std::fs::File;
 use std::io;
 use std::io::Read;
 
-/// More bytes than any book file has.
-pub const BOOK: u64 = 8197;
+/// How many bytes of a book file are read, one more than any book file has. They decide what a day prints.
+pub fn book_bytes() -> u64
+    ensures { DecidesBook result }
+{
+    8197
+}
 
-/// More bytes than any order file that is answered.
-pub const ORDERS: u64 = 32769;
+/// How many bytes of an order file are read, one more than any that is answered. They decide what a day prints.
+pub fn order_bytes() -> u64
+    ensures { DecidesOrders result }
+{
+    32769
+}
 
 /// The bytes of a file, `most` of them if it has more, none if it is missing.
 pub fn read(rt: &HostRuntime, path: &str, most: u64) -> io::Result<Vec<u8>> {

@@ -8,8 +8,8 @@ use std::io;
 use std::io::Write;
 
 fn main(rt: HostRuntime) -> io::Result<()> {
-    let book = reading::read(&rt, "book.bin", reading::BOOK)?;
-    let orders = reading::read(&rt, "orders.txt", reading::ORDERS)?;
+    let book = reading::read(&rt, "book.bin", reading::book_bytes())?;
+    let orders = reading::read(&rt, "orders.txt", reading::order_bytes())?;
     let index = PlainSearch::new();
     let printed = answers(rt.alloc(), index, book.as_slice(), orders.as_slice())?;
     rt.stdout().write_all(printed.as_slice())

@@ -107,8 +107,8 @@ fn answer(rt: &HostRuntime, case: &str) -> anyhow::Result<()> {
 
 // Answers the day of two files of the folder.
 fn answer_files(rt: &HostRuntime, name: &str, book: &str, orders: &str) -> anyhow::Result<()> {
-    let book = reading::read(rt, book, reading::BOOK)?;
-    let orders = reading::read(rt, orders, reading::ORDERS)?;
+    let book = reading::read(rt, book, reading::book_bytes())?;
+    let orders = reading::read(rt, orders, reading::order_bytes())?;
     let printed = answers(
         rt.alloc(),
         PlainSearch::new(),

@@ -1,7 +1,7 @@
 use Rattle.std.proofs.Common.{◌≡◌, ℕ, ◌≤◌, length, ap, ◌∙◌, arith, rules}
 use Rattle.std.proofs.lemmas.Result.{IfOk-from_err}
 use Rattle.orderfile.specs.Days.{printed}
-use Rattle.folder.proofs.Fronts.{front_placed}
+use Rattle.folder.proofs.Buffers.{front_placed}
 use Rattle.folder.proofs.answers.answers.Goals as goal
 
 pub returns-in_err-out : goal.returns-in_err-out
