@@ -5,7 +5,7 @@ ghost use Rattle.rising.specs.Outcomes.{Finds, FindsAnywhere, Adds, Removes, Add
 
 use crate::key::Key;
 use crate::lent;
-use crate::lent::{Added, Removed};
+use crate::lent::{NotAdded, NotThere};
 
 /// The first `len` of `keys` are the list.
 #[derive(Drop)]
@@ -24,42 +24,33 @@ impl<'a, K: Key> OrderedList<'a, K> {
 
     /// The place of `key`, from 0.
     pub fn find(&self, key: K) -> Option<usize>
-        ensures finds { Sound K.ranks self.now.keys.now self.now.len → Finds (take self.now.len self.now.keys.now) key result }
-        ensures anywhere { FindsAnywhere K.ranks self.now.keys.now self.now.len key result }
+        ensures finds { Sound K.cmp self.now.keys.now self.now.len → Finds (take self.now.len self.now.keys.now) key result }
+        ensures anywhere { FindsAnywhere K.cmp self.now.keys.now self.now.len key result }
     {
-        if self.keys.len() < self.len {
-            return None;
-        }
-        lent::find(&self.keys[0..self.len], key)
+        lent::find_front(self.keys, self.len, key)
     }
 
     /// Adds `key`.
-    pub fn add(&mut self, key: K) -> Added
+    pub fn add(&mut self, key: K) -> Result<(), NotAdded>
         ensures lender { self.new.keys.ghost_name ≡ self.old.keys.ghost_name }
         ensures len { self.new.len ≡ longer result self.old.len }
-        ensures adds { Sound K.ranks self.old.keys.now self.old.len → Adds K.ranks self.old.keys.now self.old.len key result self.new.keys.now }
-        ensures anywhere { AddsAnywhere K.ranks self.old.keys.now self.old.len key result self.new.keys.now }
+        ensures adds { Sound K.cmp self.old.keys.now self.old.len → Adds K.cmp self.old.keys.now self.old.len key result self.new.keys.now }
+        ensures anywhere { AddsAnywhere K.cmp self.old.keys.now self.old.len key result self.new.keys.now }
     {
-        let len = self.len;
-        let told = lent::add(self.keys, len, key);
-        if let Added::Added = told {
-            self.len += 1;
-        }
-        told
+        lent::add(self.keys, self.len, key)?;
+        self.len += 1;
+        Ok(())
     }
 
     /// Removes `key`.
-    pub fn remove(&mut self, key: K) -> Removed
+    pub fn remove(&mut self, key: K) -> Result<(), NotThere>
         ensures lender { self.new.keys.ghost_name ≡ self.old.keys.ghost_name }
         ensures len { self.new.len ≡ shorter result self.old.len }
-        ensures removes { Sound K.ranks self.old.keys.now self.old.len → Removes K.ranks self.old.keys.now self.old.len key result self.new.keys.now }
-        ensures anywhere { RemovesAnywhere K.ranks self.old.keys.now self.old.len key result self.new.keys.now }
+        ensures removes { Sound K.cmp self.old.keys.now self.old.len → Removes K.cmp self.old.keys.now self.old.len key result self.new.keys.now }
+        ensures anywhere { RemovesAnywhere K.cmp self.old.keys.now self.old.len key result self.new.keys.now }
     {
-        let len = self.len;
-        let told = lent::remove(self.keys, len, key);
-        if let Removed::Removed = told {
-            self.len -= 1;
-        }
-        told
+        lent::remove(self.keys, self.len, key)?;
+        self.len -= 1;
+        Ok(())
     }
 }
