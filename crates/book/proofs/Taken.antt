@@ -1,54 +1,46 @@
 -- The test whether v was taken from u: what it says of a list of derivations, and that it relates only models below the count.
-use Rattle.std.proofs.Common.{◌≡◌, ℕ, zero, suc, ◌<◌, true, ◌&&◌, eqb, ltb, List, [], ◌∷◌, map, length, get_or, is_some, Some, None, Option, sym, ap, inl, inr, arith}
-use Rattle.std.specs.List.{ContainsAt as Has}
-use Rattle.std.proofs.lemmas.Bool.{and_parts, and_from, or_cases, or_left, or_right, eqb-true, eq-eqb, ltb-true, cases_Bool}
+use Rattle.std.proofs.Common.{◌≡◌, ℕ, zero, suc, ◌<◌, true, ◌&&◌, eqb, List, [], ◌∷◌, map, length, get_or, is_some, Some, None, Option, Contains, sym, inl, inr, arith}
+use Rattle.std.proofs.lemmas.Bool.{false≢true, and_parts, or_cases, eqb-true, cases_Bool}
+use Rattle.std.proofs.lemmas.Grind.{common_steps}
 use Rattle.std.proofs.lemmas.List.{length-map}
 use Rattle.lineage.specs.Finite.{Within}
 use Rattle.lineage.specs.Book.{surplus}
 use Rattle.lineage.proofs.Few.{surplus_is_below}
 use Rattle.rising.specs.Outcomes.{Finds}
 use Rattle.book.specs.declared.derivation.Derivation.{Derivation}
-use Rattle.book.specs.Derivations.{known, proper, all_proper, Valid, taken_from}
+use Rattle.book.specs.Derivations.{all_proper, Valid, taken_from}
 
 same_derivation : (d e : Derivation) → d.from ≡ e.from → d.to ≡ e.to → d ≡ e
 same_derivation d e p q = λ i. record { from = p i; to = q i }
 
 -- the test is true exactly of the derivations that the list has
-pub has_taken : (ds : List Derivation) (d : Derivation) (m : ℕ) → m < length ds → ((e : Derivation) → get_or ds m e ≡ d) → taken_from ds d.from d.to ≡ true
+pub has_taken : (ds : List Derivation) (d : Derivation) (m : ℕ) → m < length ds → get_or ds m d ≡ d → taken_from ds d.from d.to ≡ true
 has_taken [] d m h at = absurd (omega arith)
-has_taken (x ∷ xs) d zero h at =
-    or_left _ (taken_from xs d.from d.to)
-    (and_from (eqb x.from d.from) (eqb x.to d.to) (eq-eqb _ _ (ap (λ (y : Derivation). y.from) (at x))) (eq-eqb _ _ (ap (λ (y : Derivation). y.to) (at x))))
-has_taken (x ∷ xs) d (suc m) h at = or_right _ (taken_from xs d.from d.to) (has_taken xs d m (omega arith) at)
+has_taken (x ∷ xs) d zero h at = grind (arith, common_steps)
+has_taken (x ∷ xs) d (suc m) h at =
+    let rest = has_taken xs d m in
+    grind (arith, common_steps)
 
-pub taken_has : (ds : List Derivation) (d : Derivation) → taken_from ds d.from d.to ≡ true → Has ds d
-taken_has [] d h = absurd (let z : ◌≡◌ {A = ℕ} 0 1 = cc in omega arith)
+pub taken_has : (ds : List Derivation) (d : Derivation) → taken_from ds d.from d.to ≡ true → Contains ds d
+taken_has [] d h = absurd (false≢true h)
 taken_has (x ∷ xs) d h =
     elim (or_cases (eqb x.from d.from && eqb x.to d.to) (taken_from xs d.from d.to) h) [
-      | inl e ↦ (let p = and_parts (eqb x.from d.from) (eqb x.to d.to) e in (0, omega arith, λ y. same_derivation x d (eqb-true _ _ p.0) (eqb-true _ _ p.1)))
+      | inl e ↦ (let p = and_parts (eqb x.from d.from) (eqb x.to d.to) e in (0, omega arith, same_derivation x d (eqb-true _ _ p.0) (eqb-true _ _ p.1)))
       | inr t ↦ (let m = taken_has xs d t in let l = m.1 in (suc m.0, omega arith, m.2))
     ]
 
 -- what finding a derivation answers is the test
 pub found_taken : (ds : List Derivation) (d : Derivation) (r : Option ℕ) → Finds ds d r → is_some r ≡ taken_from ds d.from d.to
-found_taken ds d (Some i) f = sym (has_taken ds d i f.0 f.1)
+found_taken ds d (Some i) f = sym (has_taken ds d i f.0 (f.1 d))
 found_taken ds d None f =
     elim (cases_Bool (taken_from ds d.from d.to)) [ inl t ↦ absurd (f (taken_has ds d t)) | inr t ↦ sym t ]
 
 -- a list of proper derivations relates only models below n
 pub taken_below : (n : ℕ) (ds : List Derivation) (u v : ℕ) → all_proper n ds ≡ true → taken_from ds u v ≡ true → (u < n) × (v < n)
-taken_below n [] u v a h = absurd (let z : ◌≡◌ {A = ℕ} 0 1 = cc in omega arith)
+taken_below n [] u v a h = absurd (false≢true h)
 taken_below n (x ∷ xs) u v a h =
-    let parts = and_parts (proper n x) (all_proper n xs) a in
-    elim (or_cases (eqb x.from u && eqb x.to v) (taken_from xs u v) h) [
-      | inl e ↦ (
-          let p = and_parts (eqb x.from u) (eqb x.to v) e in
-          let k = and_parts (known n x) _ parts.0 in
-          let b = and_parts (ltb x.from n) (ltb x.to n) k.0 in
-          (omega (arith, eqb-true x.from u p.0, ltb-true x.from n b.0), omega (arith, eqb-true x.to v p.1, ltb-true x.to n b.1))
-          )
-      | inr t ↦ taken_below n xs u v parts.1 t
-    ]
+    let rest = taken_below n xs u v in
+    grind (arith, common_steps)
 
 -- a valid book relates only models below its count, and its surplus is below 2,048
 pub valid_within : (n : ℕ) (ds : List Derivation) → Valid n ds → Within n (taken_from ds)

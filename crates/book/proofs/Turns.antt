@@ -1,24 +1,22 @@
 -- Derivations that are valid, entered in turn into an empty book, are none of them refused, and stand as they are.
-use Rattle.std.proofs.Common.{◌≡◌, ℕ, ◌<◌, ◌≤◌, true, false, List, [], ◌∷◌, ◌++◌, length, None, Ok, Option, sym, refl, ap, ◌∙◌, append_assoc, append-nil, arith, length-append, rules}
-use Rattle.std.proofs.lemmas.Bool.{and_parts, lt-ltb}
+use Rattle.std.proofs.Common.{◌≡◌, ℕ, ◌<◌, ◌≤◌, true, false, List, [], ◌∷◌, ◌++◌, length, None, Ok, Option, sym, ap, ◌∙◌, append_assoc, append-nil, arith, length-append, rules}
+use Rattle.std.proofs.lemmas.Bool.{and_parts}
+use Rattle.std.proofs.lemmas.Grind.{common_steps}
 use Rattle.rising.specs.Lists.{rising, insert, stands}
-use Rattle.rising.specs.Outcomes.{adding}
 use Rattle.rising.proofs.Edits.{insert_last, stands_last}
 use Rattle.rising.proofs.Place.{rises_from_rising, above_each_last}
 use Rattle.rising.specs.Order.{Order}
 use Rattle.book.specs.declared.derivation.Derivation.{Derivation}
 use Rattle.book.specs.declared.refusal.Refusal.{Refusal}
 use Rattle.book.specs.Order.{by_models}
-use Rattle.book.specs.Refusals.{first, unless, add_refusal}
+use Rattle.book.specs.Refusals.{unless}
 use Rattle.book.specs.Derivations.{proper, all_proper, Valid}
 use Rattle.book.specs.Books.{entry_refusal, in_turn}
 use Rattle.book.proofs.Derivations.{proper_to}
 
 -- one more that is in order
 accepted : (n : ℕ) (ds : List Derivation) (d : Derivation) → length ds < 2048 → stands by_models ds d ≡ false → proper n d ≡ true → entry_refusal n ds d ≡ None
-accepted n ds d few s p =
-    ap (λ (o : Option Refusal). first o (add_refusal (adding by_models ds 2048 d))) (proper_to n d p)
-    ∙ rw (s, lt-ltb (length ds) 2048 few) refl
+accepted n ds d few s p = let o = proper_to n d p in grind (arith, common_steps)
 
 order : Order by_models
 order = search rules

@@ -1,9 +1,8 @@
 -- The numbers that refusals are told by, and what a call answers that a refusal may stop.
 use Rattle.std.specs.Prelude.{◌≡◌, ℕ, Some, None, Ok, Err, Option, Result}
-use Rattle.rising.specs.declared.lent.Added.{Added}
-use Rattle.rising.specs.declared.lent.Added.TheVariants.{Added as Done, StandsAlready as Standing, Full}
-use Rattle.rising.specs.declared.lent.Removed.{Removed}
-use Rattle.rising.specs.declared.lent.Removed.TheVariants.{Removed as Gone, NotThere}
+use Rattle.rising.specs.declared.lent.NotAdded.{NotAdded}
+use Rattle.rising.specs.declared.lent.NotAdded.TheVariants.{StandsAlready as Standing, Full}
+use Rattle.rising.specs.declared.lent.NotThere.{NotThere}
 use Rattle.book.specs.declared.refusal.Refusal.{Refusal}
 use Rattle.book.specs.declared.refusal.Refusal.TheVariants.{CountOutOfRange, NoSuchModel, FromItself, StandsAlready, BookFull, DoesNotStand}
 
@@ -15,15 +14,19 @@ number StandsAlready = 4
 number BookFull = 5
 number DoesNotStand = 6
 
--- what the ordered list tells, as a refusal or none
-abbrev pub add_refusal : Added → Option Refusal
-add_refusal Done = None
-add_refusal Standing = Some StandsAlready
-add_refusal Full = Some BookFull
+-- why the ordered list does not add a derivation, as a refusal
+abbrev pub not_added : NotAdded → Refusal
+not_added Standing = StandsAlready
+not_added Full = BookFull
 
-abbrev pub remove_refusal : Removed → Option Refusal
-remove_refusal Gone = None
-remove_refusal NotThere = Some DoesNotStand
+-- what the ordered list tells, as a refusal or none
+abbrev pub add_refusal : Result (Unit {0}) NotAdded → Option Refusal
+add_refusal (Ok u) = None
+add_refusal (Err e) = Some (not_added e)
+
+abbrev pub remove_refusal : Result (Unit {0}) NotThere → Option Refusal
+remove_refusal (Ok u) = None
+remove_refusal (Err e) = Some DoesNotStand
 
 -- the first of two refusals
 abbrev pub first : {E : Type 0} → Option E → Option E → Option E

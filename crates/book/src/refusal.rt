@@ -1,9 +1,12 @@
 //! Why a count, an entry or a strike is refused.
 ghost use Rattle.std.specs.Prelude.{◌≡◌};
-ghost use Rattle.book.specs.Refusals.{number};
+ghost use Rattle.book.specs.declared.refusal.Refusal.TheVariants.{DoesNotStand};
+ghost use Rattle.book.specs.Refusals.{number, not_added};
+
+use rising::lent::{NotAdded, NotThere};
 
 /// A refusal, told by its number.
-#[derive(Clone, Copy)]
+#[derive(Clone, Copy, Debug, PartialEq, Eq)]
 pub enum Refusal {
     CountOutOfRange = 1,
     NoSuchModel = 2,
@@ -19,5 +22,24 @@ impl Refusal {
         ensures { result ≡ number self }
     {
         self as u8
+    }
+}
+
+impl From<NotAdded> for Refusal {
+    ghost from_gives = { λ e r. r ≡ not_added e };
+
+    fn from(told: NotAdded) -> Refusal {
+        match told {
+            NotAdded::StandsAlready => Refusal::StandsAlready,
+            NotAdded::Full => Refusal::BookFull,
+        }
+    }
+}
+
+impl From<NotThere> for Refusal {
+    ghost from_gives = { λ _ r. r ≡ DoesNotStand };
+
+    fn from(_told: NotThere) -> Refusal {
+        Refusal::DoesNotStand
     }
 }

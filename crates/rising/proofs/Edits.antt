@@ -2,7 +2,8 @@
 use Rattle.std.proofs.Common.{◌≡◌, suc, true, false, List, [], ◌∷◌, ◌++◌, length, get_or, Ordering, Less, Equal, Greater, refl, ap, ◌∙◌, arith}
 use Rattle.std.specs.Ordering.{ordering_reverse, match_ordering}
 use Rattle.std.specs.List as list
-use Rattle.std.proofs.lemmas.Bool.{true≢false, false≢true}
+use Rattle.std.proofs.lemmas.Bool.{false≢true}
+use Rattle.std.proofs.lemmas.Grind.{common_steps}
 use Rattle.rising.specs.Order.{Order}
 use Rattle.rising.specs.Lists.{place, stands, insert, delete}
 use Rattle.rising.proofs.Place.{Rises, BelowEach, AboveEach, below_each_cons, below_each_tail, below_each_head, rises_cons, rises_tail}
@@ -21,28 +22,28 @@ module _ {K : Type 0} (cmp : K → K → Ordering) where
       [ Less ↦ below_each_cons cmp x y (delete cmp ys k) (o 0 y (omega arith)) (below_each_delete x ys k (below_each_tail cmp x y ys o)) | Equal ↦ below_each_tail cmp x y ys o | Greater ↦ o ]
 
   pub insert_inserted : (xs : List K) (k : K) → stands cmp xs k ≡ false → insert cmp xs k ≡ list.insert xs (place cmp xs k) k
-  insert_inserted [] k = λ h. refl
-  insert_inserted (x ∷ xs) k =
-      elim (cmp x k) as (λ q. match_ordering q (stands cmp xs k) true false ≡ false → match_ordering q (x ∷ insert cmp xs k) (x ∷ xs) (k ∷ x ∷ xs) ≡ list.insert (x ∷ xs) (match_ordering q (suc (place cmp xs k)) 0 0) k)
-      [ Less ↦ (λ h. ap (λ (t : List K). x ∷ t) (insert_inserted xs k h)) | Equal ↦ (λ h. absurd (true≢false h)) | Greater ↦ (λ h. refl) ]
+  insert_inserted [] k h = refl
+  insert_inserted (x ∷ xs) k h =
+      let ih = insert_inserted xs k in
+      grind (arith, common_steps)
 
   pub delete_removed : (xs : List K) (k : K) → stands cmp xs k ≡ true → delete cmp xs k ≡ list.remove xs (place cmp xs k)
-  delete_removed [] k = λ h. refl
-  delete_removed (x ∷ xs) k =
-      elim (cmp x k) as (λ q. match_ordering q (stands cmp xs k) true false ≡ true → match_ordering q (x ∷ delete cmp xs k) xs (x ∷ xs) ≡ list.remove (x ∷ xs) (match_ordering q (suc (place cmp xs k)) 0 0))
-      [ Less ↦ (λ h. ap (λ (t : List K). x ∷ t) (delete_removed xs k h)) | Equal ↦ (λ h. refl) | Greater ↦ (λ h. absurd (false≢true h)) ]
+  delete_removed [] k h = refl
+  delete_removed (x ∷ xs) k h =
+      let ih = delete_removed xs k in
+      grind (arith, common_steps)
 
   pub length_insert : (xs : List K) (k : K) → stands cmp xs k ≡ false → length (insert cmp xs k) ≡ suc (length xs)
-  length_insert [] k = λ h. refl
-  length_insert (x ∷ xs) k =
-      elim (cmp x k) as (λ q. match_ordering q (stands cmp xs k) true false ≡ false → length (match_ordering q (x ∷ insert cmp xs k) (x ∷ xs) (k ∷ x ∷ xs)) ≡ suc (suc (length xs)))
-      [ Less ↦ (λ h. ap suc (length_insert xs k h)) | Equal ↦ (λ h. absurd (true≢false h)) | Greater ↦ (λ h. refl) ]
+  length_insert [] k h = refl
+  length_insert (x ∷ xs) k h =
+      let ih = length_insert xs k in
+      grind (arith, common_steps)
 
   pub length_delete : (xs : List K) (k : K) → stands cmp xs k ≡ true → suc (length (delete cmp xs k)) ≡ length xs
-  length_delete [] k = λ h. absurd (false≢true h)
-  length_delete (x ∷ xs) k =
-      elim (cmp x k) as (λ q. match_ordering q (stands cmp xs k) true false ≡ true → suc (length (match_ordering q (x ∷ delete cmp xs k) xs (x ∷ xs))) ≡ suc (length xs))
-      [ Less ↦ (λ h. ap suc (length_delete xs k h)) | Equal ↦ (λ h. refl) | Greater ↦ (λ h. absurd (false≢true h)) ]
+  length_delete [] k h = absurd (false≢true h)
+  length_delete (x ∷ xs) k h =
+      let ih = length_delete xs k in
+      grind (arith, common_steps)
 
   -- a key above each of a list goes to its end
   pub insert_last : (xs : List K) (k : K) → AboveEach cmp xs k → insert cmp xs k ≡ xs ++ k ∷ []
@@ -75,7 +76,8 @@ module _ {K : Type 0} (cmp : K → K → Ordering) where
 
     -- the key that stands is the one that is sought
     pub stands_is : (xs : List K) (k d : K) → stands cmp xs k ≡ true → get_or xs (place cmp xs k) d ≡ k
-    stands_is [] k d = λ h. absurd (false≢true h)
-    stands_is (x ∷ xs) k d =
-        (elim (cmp x k) as (λ q. cmp x k ≡ q → match_ordering q (stands cmp xs k) true false ≡ true → get_or (x ∷ xs) (match_ordering q (suc (place cmp xs k)) 0 0) d ≡ k)
-        [ Less ↦ (λ e h. stands_is xs k d h) | Equal ↦ (λ e h. order.same x k e) | Greater ↦ (λ e h. absurd (false≢true h)) ]) refl
+    stands_is [] k d h = absurd (false≢true h)
+    stands_is (x ∷ xs) k d h =
+        let rest = stands_is xs k d in
+        let same = order.same x k in
+        grind (arith, common_steps)

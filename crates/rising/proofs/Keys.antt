@@ -1,6 +1,7 @@
 -- The keys that a rising list has, with a key inserted or deleted, and that they decide which list it is.
 use Rattle.std.proofs.Common.{◌≡◌, ℕ, zero, suc, ◌<◌, true, ◌⊎◌, ◌↔◌, List, [], ◌∷◌, length, get_or, Contains, Decides, Ordering, Less, Equal, Greater, sym, refl, ap, ◌∙◌, inl, inr, arith}
 use Rattle.std.specs.Ordering.{ordering_reverse, match_ordering}
+use Rattle.std.proofs.lemmas.Grind.{common_steps}
 use Rattle.rising.specs.Order.{Order}
 use Rattle.rising.specs.Lists.{rising, place, stands, insert, delete}
 use Rattle.rising.specs.Laws.{Laws}
@@ -35,7 +36,7 @@ module _ {K : Type 0} (cmp : K → K → Ordering) (order : Order cmp) where
 
   -- a key below each of a list, and the keys that it holds
   not_same : (x y : K) → cmp x y ≡ Less → x ≡ y → ⊥
-  not_same x y l e = let f : cmp x y ≡ Equal = ap (cmp x) (sym e) ∙ order.itself x in let z : ◌≡◌ {A = ℕ} 0 1 = cc in omega arith
+  not_same x y l e = let f = order.itself x in grind (arith, common_steps)
 
   head_below : (x : K) (xs : List K) (y : K) → Rises cmp (x ∷ xs) → Contains xs y → cmp x y ≡ Less
   head_below x xs y up h = ap (cmp x) (sym h.2) ∙ below_each_head cmp x xs up h.0 y h.1

@@ -1,15 +1,14 @@
 -- Where a key's place lies, by what the key at an index compares as.
-use Rattle.std.proofs.Common.{◌≡◌, ℕ, zero, suc, ◌<◌, ◌≤◌, true, false, List, [], ◌∷◌, ◌++◌, length, get_or, Ordering, Less, Equal, Greater, sym, refl, ap, ◌∙◌, subst, arith, length-append}
-use Rattle.std.specs.Ordering.{is_lt, match_ordering}
+use Rattle.std.proofs.Common.{◌≡◌, ℕ, zero, suc, ◌<◌, ◌≤◌, true, List, [], ◌∷◌, ◌++◌, length, get_or, Ordering, Less, Equal, Greater, sym, refl, ap, ◌∙◌, subst, arith, length-append}
+use Rattle.std.specs.Ordering.{is_lt}
 use Rattle.std.proofs.lemmas.List.{get_or_append_left, get_or_at}
-use Rattle.std.proofs.lemmas.Bool.{and_parts}
+use Rattle.std.proofs.lemmas.Bool.{false≢true, and_parts}
+use Rattle.std.proofs.lemmas.Grind.{common_steps}
 use Rattle.rising.specs.Order.{Order}
 use Rattle.rising.specs.Lists.{rising, place, stands}
 
 is_less : (o : Ordering) → is_lt o ≡ true → o ≡ Less
-is_less Less h = refl
-is_less Equal h = absurd (let z : ◌≡◌ {A = ℕ} 0 1 = cc in omega arith)
-is_less Greater h = absurd (let z : ◌≡◌ {A = ℕ} 0 1 = cc in omega arith)
+is_less o h = grind (arith, common_steps)
 
 module _ {K : Type 0} (cmp : K → K → Ordering) where
   -- each key is below every later one
@@ -50,21 +49,21 @@ module _ {K : Type 0} (cmp : K → K → Ordering) where
   place_within [] k = omega arith
   place_within (x ∷ xs) k =
       let rest = place_within xs k in
-      elim (cmp x k) as (λ o. match_ordering o (suc (place cmp xs k)) 0 0 ≤ suc (length xs)) [ Less ↦ omega arith | Equal ↦ omega arith | Greater ↦ omega arith ]
+      grind (arith, common_steps)
 
   pub stands_within : (xs : List K) (k : K) → stands cmp xs k ≡ true → place cmp xs k < length xs
-  stands_within [] k = λ h. absurd (let z : ◌≡◌ {A = ℕ} 0 1 = cc in omega arith)
-  stands_within (x ∷ xs) k =
-      elim (cmp x k) as (λ o. match_ordering o (stands cmp xs k) true false ≡ true → match_ordering o (suc (place cmp xs k)) 0 0 < suc (length xs)) [ Less ↦ (λ h. let rest = stands_within xs k h in omega arith) | Equal ↦ (λ h. omega arith) | Greater ↦ (λ h. omega arith) ]
+  stands_within [] k h = absurd (false≢true h)
+  stands_within (x ∷ xs) k h =
+      let rest = stands_within xs k in
+      grind (arith, common_steps)
 
   -- at a key above k
   pub above_place : (xs : List K) (k : K) (m : ℕ) (d : K) → Rises xs → m < length xs → cmp (get_or xs m d) k ≡ Greater → (place cmp xs k ≤ m) × (stands cmp xs k ≡ true → place cmp xs k < m)
   above_place [] k m d up h e = absurd (omega arith)
-  above_place (x ∷ xs) k zero d up h e = (rw e (omega arith), rw e (λ f. absurd (let z : ◌≡◌ {A = ℕ} 0 1 = cc in omega arith)))
+  above_place (x ∷ xs) k zero d up h e = (rw e (omega arith), rw e (λ f. absurd (false≢true f)))
   above_place (x ∷ xs) k (suc m) d up h e =
       let rest = above_place xs k m d (rises_tail x xs up) (omega arith) e in
-      elim (cmp x k) as (λ o. (match_ordering o (suc (place cmp xs k)) 0 0 ≤ suc m) × (match_ordering o (stands cmp xs k) true false ≡ true → match_ordering o (suc (place cmp xs k)) 0 0 < suc m))
-      [ Less ↦ (omega arith, λ f. let more = rest.1 f in omega arith) | Equal ↦ (omega arith, λ f. omega arith) | Greater ↦ (omega arith, λ f. omega arith) ]
+      grind (arith, common_steps)
 
   pub rising_from_rises : (xs : List K) → Rises xs → rising cmp xs ≡ true
   rising_from_rises [] up = refl

@@ -3,6 +3,7 @@ use Rattle.std.proofs.Common.{◌≡◌, ℕ, zero, suc, ◌+◌, ◌-◌, ◌<�
 use Rattle.std.proofs.lemmas.List.{get_or_read}
 use Rattle.std.proofs.lemmas.Bool.{ltb-true, ltb-false, lt-ltb, le-ltb}
 use Rattle.std.specs.Ordering.{match_ordering}
+use Rattle.std.proofs.lemmas.Grind.{common_steps}
 use Rattle.rising.specs.Order.{Order}
 use Rattle.rising.specs.Lists.{place, stands, sought}
 use Rattle.rising.specs.Halving.{middle, halve, halving}
@@ -10,11 +11,10 @@ use Rattle.rising.proofs.Place.{Rises, place_within, stands_within, above_place,
 
 -- an end of the search, as `sought` has it
 found : (b : Bool) (i at : ℕ) → b ≡ true → at ≡ i → ◌≡◌ {A = Result ℕ ℕ} (Ok i) (cond b (Ok at) (Err at))
-found b i at h e = rw (h, e) refl
+found b i at h e = grind (arith, common_steps)
 
 missed : (b : Bool) (i at : ℕ) → (b ≡ true → ⊥) → at ≡ i → ◌≡◌ {A = Result ℕ ℕ} (Err i) (cond b (Ok at) (Err at))
-missed true i at h e = absurd (h refl)
-missed false i at h e = rw e refl
+missed b i at h e = grind (arith, common_steps)
 
 module _ {K : Type 0} (cmp : K → K → Ordering) where
   -- how the key that was read compares

@@ -7,6 +7,7 @@ use Rattle.std.proofs.lemmas.Bool.{lt-ltb, le-ltb, le-leb, both_ways}
 use Rattle.rising.specs.declared.lent.NotAdded.{NotAdded}
 use Rattle.rising.specs.declared.lent.NotAdded.TheVariants.{StandsAlready, Full}
 use Rattle.rising.specs.declared.lent.NotThere.{NotThere}
+use Rattle.std.proofs.lemmas.Grind.{common_steps}
 use Rattle.rising.specs.Order.{Order}
 use Rattle.rising.specs.Lists.{rising, Sound, place, stands, insert, delete, sought}
 use Rattle.rising.specs.Halving.{halving}
@@ -18,20 +19,16 @@ use Rattle.rising.proofs.Keys.{standing}
 
 -- what the answer of the search says of a list where k stands at p, or would
 missing : (b : Bool) (at p : ℕ) → ◌≡◌ {A = Result ℕ ℕ} (cond b (Ok p) (Err p)) (Err at) → (b ≡ false) × (at ≡ p)
-missing true at p e = absurd (let z : ◌≡◌ {A = ℕ} 0 1 = cc in omega arith)
-missing false at p e = (refl, cc)
+missing b at p e = grind (arith, common_steps)
 
 there : (b : Bool) (at p : ℕ) → Some at ≡ result_ok {E = ℕ} (cond b (Ok p) (Err p)) → (b ≡ true) × (at ≡ p)
-there true at p e = (refl, cc)
-there false at p e = absurd (let z : ◌≡◌ {A = ℕ} 0 1 = cc in omega arith)
+there b at p e = grind (arith, common_steps)
 
 nowhere : (b : Bool) (p : ℕ) → None ≡ result_ok {E = ℕ} (cond b (Ok p) (Err p)) → b ≡ false
-nowhere true p e = absurd (let z : ◌≡◌ {A = ℕ} 0 1 = cc in omega arith)
-nowhere false p e = refl
+nowhere b p e = grind (arith, common_steps)
 
 is_there : (b : Bool) (p : ℕ) → is_ok {E = ℕ} (cond b (Ok p) (Err p)) ≡ b
-is_there true p = refl
-is_there false p = refl
+is_there b p = grind (arith, common_steps)
 
 module _ {K : Type 0} (cmp : K → K → Ordering) (order : Order cmp) where
   halving_seeks : (xs : List K) (k : K) → rising cmp xs ≡ true → halving cmp xs k ≡ sought cmp xs k

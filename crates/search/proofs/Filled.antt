@@ -1,11 +1,10 @@
 -- Rows cut from a book's rising derivations say the same of who was taken from whom as the list does.
 use Rattle.std.proofs.Common.{◌≡◌, ℕ, zero, suc, ◌+◌, ◌-◌, ◌<◌, ◌≤◌, Bool, true, false, cond, eqb, ltb, List, [], ◌∷◌, length, get_or, Less, Equal, Greater, sym, ap, ◌∙◌, subst, inl, inr, arith}
-use Rattle.std.specs.Ordering.{is_lt, ordering_then}
+use Rattle.std.specs.Ordering.{is_lt, nat_cmp, ordering_then}
 use Rattle.std.specs.List.{between}
 use Rattle.std.proofs.lemmas.List.{get_or_default}
 use Rattle.std.proofs.lemmas.Bool.{false≢true, cases_lt, cases_Bool, le-ltb, ne_eqb, and_parts}
 use Rattle.rising.specs.Lists.{rising, below_first}
-use Rattle.rising.specs.Order.{by_number}
 use Rattle.book.specs.declared.derivation.Derivation.{Derivation}
 use Rattle.book.specs.Order.{by_models}
 use Rattle.book.specs.Derivations.{Valid, taken_from}
@@ -31,7 +30,7 @@ lower x y h = elim (cases_lt y.from x.from) [
   | inl l ↦ (
       let e : ltb x.from y.from ≡ false = le-ltb x.from y.from (omega arith) in
       let f : eqb x.from y.from ≡ false = ne_eqb x.from y.from (λ g. omega arith) in
-      let second = by_number x.to y.to in
+      let second = nat_cmp x.to y.to in
       absurd (false≢true (
       sym (ap (λ (b : Bool). is_lt (ordering_then (cond b Less (cond (eqb x.from y.from) Equal Greater)) second)) e ∙ ap (λ (b : Bool). is_lt (ordering_then (cond b Equal Greater) second)) f) ∙ h
       ))
@@ -58,7 +57,7 @@ firsts_rise (x ∷ xs) h (suc i) (suc j) a l = firsts_rise xs (and_parts (below_
 
 module _ (n : ℕ) (ds : List Derivation) (valid : Valid n ds) where
   taken_at : (k : ℕ) → k < length ds → taken_from ds (at ds k).from (at ds k).to ≡ true
-  taken_at k l = has_taken ds (at ds k) k l (λ e. get_or_default ds k e (record { from = 0; to = 0 }) l)
+  taken_at k l = has_taken ds (at ds k) k l (get_or_default ds k (at ds k) (record { from = 0; to = 0 }) l)
 
   pub known : (k : ℕ) → k < length ds → ((at ds k).from < n) × ((at ds k).to < n)
   known k l = taken_below n ds (at ds k).from (at ds k).to valid.proper (taken_at k l)
@@ -107,7 +106,7 @@ module _ (n : ℕ) (ds : List Derivation) (valid : Valid n ds) where
         let r = taken_has ds d e in
         let m = r.0 in
         let in_list : m < length ds = r.1 in
-        let is : at ds m ≡ d = r.2 (record { from = 0; to = 0 }) in
+        let is : at ds m ≡ d = get_or_default ds m (record { from = 0; to = 0 }) d in_list ∙ r.2 in
         let s : (at ds m).from ≡ u = ap (λ (x : Derivation). x.from) is in
         let a : low ≤ m = elim (cases_lt m low) [ inl h ↦ absurd (let z = low_cut.under m h in omega arith) | inr h ↦ h ] in
         let b : m < high = elim (cases_lt m high) [ inl h ↦ h | inr h ↦ absurd (let z = high_cut.over m h in_list in omega arith) ] in

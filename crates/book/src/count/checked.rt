@@ -1,6 +1,7 @@
 //! Checking a count.
 ghost use Rattle.std.specs.Prelude.{◌≡◌};
-ghost use Rattle.book.specs.Counts.{models, Counts};
+ghost use Rattle.book.specs.Counts.{models, Counts, model_refusal};
+ghost use Rattle.book.specs.Refusals.{Answers};
 
 use crate::count::Count;
 use crate::refusal::Refusal;
@@ -20,6 +21,16 @@ impl Count {
     pub fn models(self) -> u16
         ensures { result ≡ models self }
     {
-        self.models
+        self.models // the last model is numbered one less
+    }
+
+    /// Refuses a model that is not below the count.
+    pub fn check(self, model: u16) -> Result<(), Refusal>
+        ensures { Answers (model_refusal (models self) model) result }
+    {
+        if model >= self.models {
+            return Err(Refusal::NoSuchModel);
+        }
+        Ok(())
     }
 }

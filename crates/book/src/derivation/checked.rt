@@ -12,10 +12,8 @@ impl Derivation {
     pub fn check_models(self, count: Count) -> Result<(), Refusal>
         ensures { Answers (unknown (models count) self) result }
     {
-        if self.from >= count.models() || self.to >= count.models() {
-            return Err(Refusal::NoSuchModel);
-        }
-        Ok(())
+        count.check(self.from)?;
+        count.check(self.to)
     }
 
     /// Refuses a derivation that no book of the count can have.

@@ -6,7 +6,6 @@ use crate::count::Count;
 use crate::derivation::Derivation;
 use crate::kept::Book;
 use crate::refusal::Refusal;
-use rising::lent::{Added, Removed};
 use rising::list::OrderedList;
 
 impl Book {
@@ -29,20 +28,14 @@ impl Book {
         ensures { Enters self.old derivation result self.new }
     {
         derivation.check(self.count)?;
-        let len = self.len;
         let mut list = OrderedList {
             keys: &mut self.places,
-            len,
+            len: self.len,
         };
-        match list.add(derivation) {
-            Added::StandsAlready => Err(Refusal::StandsAlready),
-            Added::Full => Err(Refusal::BookFull),
-            Added::Added => {
-                self.len = list.len();
-                self.stale = true; // an index does not know it yet
-                Ok(())
-            }
-        }
+        list.add(derivation)?;
+        self.len = list.len();
+        self.stale = true; // an index does not know it yet
+        Ok(())
     }
 
     /// Strikes `derivation`.
@@ -50,19 +43,14 @@ impl Book {
         ensures { Strikes self.old derivation result self.new }
     {
         derivation.check_models(self.count)?;
-        let len = self.len;
         let mut list = OrderedList {
             keys: &mut self.places,
-            len,
+            len: self.len,
         };
-        match list.remove(derivation) {
-            Removed::NotThere => Err(Refusal::DoesNotStand),
-            Removed::Removed => {
-                self.len = list.len();
-                self.stale = true; // an index still knows it
-                Ok(())
-            }
-        }
+        list.remove(derivation)?;
+        self.len = list.len();
+        self.stale = true; // an index still knows it
+        Ok(())
     }
 
     /// Marks the book as indexed.
