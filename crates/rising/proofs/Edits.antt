@@ -1,4 +1,4 @@
--- A key insert into a rising list, or taken out of it: where it goes, and that the list rises after.
+-- A key inserted into a rising list, or taken out of it: where it goes, and that the list rises after.
 use Rattle.std.proofs.Common.{◌≡◌, suc, true, false, List, [], ◌∷◌, ◌++◌, length, get_or, Ordering, Less, Equal, Greater, refl, ap, ◌∙◌, arith}
 use Rattle.std.specs.Ordering.{ordering_reverse, match_ordering}
 use Rattle.std.specs.List as list

@@ -4,10 +4,10 @@ use Rattle.std.specs.List as list
 use Rattle.std.specs.Result.{result_ok}
 use Rattle.std.proofs.lemmas.List.{take_at, length-take-le}
 use Rattle.std.proofs.lemmas.Bool.{lt-ltb, le-ltb, le-leb, both_ways}
+use Rattle.std.proofs.lemmas.Grind.{common_steps}
 use Rattle.rising.specs.declared.lent.NotAdded.{NotAdded}
 use Rattle.rising.specs.declared.lent.NotAdded.TheVariants.{StandsAlready, Full}
 use Rattle.rising.specs.declared.lent.NotThere.{NotThere}
-use Rattle.std.proofs.lemmas.Grind.{common_steps}
 use Rattle.rising.specs.Order.{Order}
 use Rattle.rising.specs.Lists.{rising, Sound, place, stands, insert, delete, sought}
 use Rattle.rising.specs.Halving.{halving}
