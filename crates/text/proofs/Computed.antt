@@ -1,18 +1,21 @@
 -- The computed first number is the one that reading answers.
-use Rattle.std.proofs.Common.{◌≡◌, ℕ, suc, ◌<◌, ◌≤◌, Bool, true, false, cond, not, ◌&&◌, ◌||◌, eqb, ltb, leb, List, [], ◌∷◌, length, get_or, take, drop, Some, None, sym, refl, ◌∙◌, ⊎_elim, arith, MatchOption}
+use Rattle.std.proofs.Common.{◌≡◌, ℕ, ◌+◌, ◌<◌, ◌≤◌, Bool, true, false, cond, not, ◌&&◌, ◌||◌, eqb, ltb, leb, List, [], ◌∷◌, length, get_or, take, drop, Some, None, sym, refl, ◌∙◌, one-add, subst, ⊎_elim, arith, MatchOption}
 use Rattle.std.specs.Char.{is_ascii_digit}
 use Rattle.std.specs.Str.Parse.{digits_value}
 use Rattle.std.proofs.lemmas.Bool.{and_parts, and_from, or_cases, or_left, or_right, not-true, not_from_false, ltb-true, leb-true, eqb-false, lt-ltb, le-leb, ne_eqb, cases_eq, true≢false, cond_both}
 use Rattle.text.specs.Numerals.{Begins, NoNumeral, lead, plain, first_number}
 use Rattle.text.proofs.Fronts.{Front, Canon, front_canon, front_length, front_reads}
 
-by_digit : (c : ℕ) (cs : List ℕ) (t : Bool) → is_ascii_digit c ≡ t → Front cs (lead cs) → Front (c ∷ cs) (cond t (suc (lead cs)) 0)
-by_digit c cs true e f = record { within = omega (arith, f.within); front = and_from _ _ e f.front; ends = f.ends }
+by_digit : (c : ℕ) (cs : List ℕ) (t : Bool) → is_ascii_digit c ≡ t → Front cs (lead cs) → Front (c ∷ cs) (cond t (1 + lead cs) 0)
+by_digit c cs true e f = rw one-add (record { within = omega (arith, f.within); front = and_from _ _ e f.front; ends = f.ends })
 by_digit c cs false e f = record { within = omega arith; front = refl; ends = e }
 
 pub lead_front : (bytes : List ℕ) → Front bytes (lead bytes)
 lead_front [] = record { within = omega arith; front = refl; ends = refl }
 lead_front (c ∷ cs) = by_digit c cs (is_ascii_digit c) refl (lead_front cs)
+
+pub lead_at : (bytes : List ℕ) (k : ℕ) → k ≡ lead bytes → Front bytes k
+lead_at bytes k e = let P : ℕ → Type 0 = λ n. Front bytes n in subst P (sym e) (lead_front bytes)
 
 pub plain_canon : (ds : List ℕ) (v : ℕ) → v < 65536 → Canon ds v → plain ds ≡ true
 unfolding plain

@@ -1,11 +1,12 @@
 -- The front of digits that bytes begin with, and the one numeral that it can be.
-use Rattle.std.proofs.Common.{◌≡◌, ℕ, zero, suc, ◌-◌, ◌<◌, ◌≤◌, true, false, List, [], ◌∷◌, ◌++◌, length, get_or, take, drop, decimal, sym, refl, ap, ◌∙◌, subst, ⊎_elim, arith, rules}
+use Rattle.std.proofs.Common.{◌≡◌, ℕ, zero, suc, ◌+◌, ◌-◌, ◌*◌, ◌<◌, ◌≤◌, true, false, List, [], ◌∷◌, ◌++◌, length, get_or, take, drop, decimal, sym, refl, ap, ◌∙◌, subst, ⊎_elim, arith, rules}
 use Rattle.std.specs.Char.{is_ascii_digit, digit_value}
 use Rattle.std.specs.Str.Parse.{digits_value}
 use Rattle.std.specs.Str.{all_ascii_digits}
 use Rattle.std.proofs.lemmas.List.{take-append-drop, length-take-le}
-use Rattle.std.proofs.lemmas.Bool.{and_parts, and_from, false≢true, le-ltb, lt-ltb, cases_lt}
-use Rattle.std.proofs.lemmas.Str.Parse.{IsNumeralModel, numerals_by_value, tells_all_ascii_digits}
+use Rattle.std.proofs.lemmas.Bool.{and_parts, false≢true, le-ltb, lt-ltb, cases_lt}
+use Rattle.std.proofs.lemmas.Str.Parse.{IsNumeralModel, numerals_by_value, tells_all_ascii_digits, digits_value-take-le}
+use Rattle.std.proofs.lemmas.Int.Digits.{digits_value_more}
 use Rattle.std.proofs.lemmas.Fmt.{digits_decimal, digits_value-decimal, decimal-digits_value, decimal_nonempty, length-decimal-le, first_decimal, decimal_digit}
 use Rattle.text.specs.Numerals.{digit_first, Begins}
 
@@ -20,12 +21,6 @@ range_from_digit c h = search rules
 
 pub digit_value_is : (c : ℕ) → 48 ≤ c → c ≤ 57 → digit_value c ≡ c - 48
 digit_value_is c h k = rw (le-ltb c 48 h, lt-ltb c 58 (omega arith)) refl
-
-pub all_push : (xs : List ℕ) (c : ℕ) → all_ascii_digits xs ≡ true → is_ascii_digit c ≡ true → all_ascii_digits (xs ++ (c ∷ [])) ≡ true
-all_push [] c h k = and_from _ _ k refl
-all_push (x ∷ xs) c h k =
-    let p = and_parts (is_ascii_digit x) (all_ascii_digits xs) h in
-    and_from (is_ascii_digit x) (all_ascii_digits (xs ++ (c ∷ []))) p.0 (all_push xs c p.1 k)
 
 pub all_at : (xs : List ℕ) (i : ℕ) → all_ascii_digits xs ≡ true → i < length xs → is_ascii_digit (get_or xs i 0) ≡ true
 all_at [] i h l = absurd (omega arith)
@@ -101,3 +96,13 @@ begins_same bytes v w rest more a b =
     (digits_decimal own v (omega (arith, a.small))) (digits_decimal own w (omega (arith, b.small))) a.ends b.ends
     (sym a.whole ∙ b.whole) in
     sym (digits_value-decimal own v (omega (arith, a.small))) ∙ ap (digits_value 10) e ∙ digits_value-decimal own w (omega (arith, b.small))
+
+-- one digit more: the value that it makes, which is no more than that of all digits
+pub value_step : (xs : List ℕ) (i : ℕ) → all_ascii_digits xs ≡ true → i < length xs
+    → (48 ≤ get_or xs i 0) × (digits_value 10 (take (i + 1) xs) ≡ digits_value 10 (take i xs) * 10 + (get_or xs i 0 - 48)) × (digits_value 10 (take (i + 1) xs) ≤ digits_value 10 xs)
+value_step xs i h l =
+    let r = range_from_digit (get_or xs i 0) (all_at xs i h l) in (
+      r.0,
+      digits_value_more 10 xs i l ∙ ap (λ m. digits_value 10 (take i xs) * 10 + m) (digit_value_is (get_or xs i 0) r.0 r.1),
+      digits_value-take-le 10 xs (i + 1) (omega arith),
+    )

@@ -1,5 +1,6 @@
 -- Decimal numerals of numbers up to 65,535: what reading and writing one comes to, and the same computed.
-use Rattle.std.specs.Prelude.{◌≡◌, ℕ, suc, ◌+◌, ◌-◌, ◌<◌, ◌≤◌, Bool, false, cond, not, ◌&&◌, ◌||◌, List, [], ◌∷◌, ◌++◌, length, take, drop, Some, None, decimal, Option, ◌==◌, nat_le, nat_lt, slice_index}
+use Rattle.std.specs.Prelude.{◌≡◌, ℕ, ◌+◌, ◌-◌, ◌<◌, ◌≤◌, Bool, false, cond, not, ◌&&◌, ◌||◌, List, [], ◌∷◌, ◌++◌, length, take, drop, Some, None, decimal, Option, ◌==◌, nat_le, nat_lt, slice_index}
+use Rattle.std.specs.List.{prefix_len}
 use Rattle.std.specs.Char.{is_ascii_digit}
 use Rattle.std.specs.Str.Parse.{digits_value}
 use Rattle.text.specs.Placing.{placed}
@@ -37,8 +38,7 @@ Back buffer at n None after = Unit {0}
 
 -- how many digits the bytes begin with
 abbrev pub lead : List ℕ → ℕ
-lead [] = 0
-lead (c ∷ cs) = cond (is_ascii_digit c) (suc (lead cs)) 0
+lead bytes = prefix_len is_ascii_digit bytes
 
 -- one to five digits, no zero before another digit, at most 65,535
 unfoldable pub plain : List ℕ → Bool

@@ -8,11 +8,10 @@ use crate::numeral::{width, write_number};
 pub fn write_bytes(out: &mut [u8], at: usize, bytes: &[u8]) -> Option<usize>
     ensures { Wrote out.old at bytes.now result out.new }
 {
-    let len = out.len();
-    if at > len || len - at < bytes.len() {
+    let end = at.checked_add(bytes.len())?;
+    if end > out.len() {
         return None;
     }
-    let end = at + bytes.len();
     out[at..end].copy_from_slice(bytes);
     Some(end)
 }
@@ -21,9 +20,8 @@ pub fn write_bytes(out: &mut [u8], at: usize, bytes: &[u8]) -> Option<usize>
 pub fn write_numbered(out: &mut [u8], word: &[u8], n: u16) -> Option<usize>
     ensures { Wrote out.old 0 (word.now ++ (decimal n ++ codes "\n")) result out.new }
 {
-    let len = out.len();
-    let tail = width(n) + 1;
-    if tail > len || len - tail < word.len() {
+    let len = word.len().checked_add(width(n) + 1)?;
+    if len > out.len() {
         return None;
     }
     let at = write_bytes(out, 0, word)?;
