@@ -2,9 +2,7 @@
 use Rattle.std.proofs.Common.{◌≡◌, ℕ, zero, suc, ◌+◌, ◌-◌, ◌*◌, ◌/◌, ◌%◌, ◌<◌, min, List, [], ◌∷◌, ◌++◌, map, length, get_or, take, drop, refl, ap, ◌∙◌, arith}
 use Rattle.std.proofs.lemmas.List.{take_at, drop_at, length-map, get_or-drop}
 use Rattle.book.specs.declared.derivation.Derivation.{Derivation}
-use Rattle.bookfile.specs.declared.writing.Side.{Side}
-use Rattle.bookfile.specs.declared.writing.Side.TheVariants.{First, Second}
-use Rattle.bookfile.specs.Files.{words, numbers, paired, derivations, model_of, column}
+use Rattle.bookfile.specs.Files.{words, numbers, paired, derivations, column, first_models, second_models}
 
 -- each is a byte
 abbrev pub Bytes : List ℕ → Type 0
@@ -64,30 +62,36 @@ length_derivations xs ys =
     let p = length_paired (numbers xs) (numbers ys) in
     omega arith
 
-pub firsts_paired : (us vs : List ℕ) → length us ≡ length vs → map (model_of First) (paired us vs) ≡ us
+pub firsts_paired : (us vs : List ℕ) → length us ≡ length vs → map (λ d. d.from) (paired us vs) ≡ us
 firsts_paired [] vs e = refl
 firsts_paired (u ∷ us) [] e = absurd (omega arith)
 firsts_paired (u ∷ us) (v ∷ vs) e = ap (λ xs. u ∷ xs) (firsts_paired us vs (omega arith))
 
-pub seconds_paired : (us vs : List ℕ) → length us ≡ length vs → map (model_of Second) (paired us vs) ≡ vs
+pub seconds_paired : (us vs : List ℕ) → length us ≡ length vs → map (λ d. d.to) (paired us vs) ≡ vs
 seconds_paired [] [] e = refl
 seconds_paired [] (v ∷ vs) e = absurd (omega arith)
 seconds_paired (u ∷ us) [] e = absurd (omega arith)
 seconds_paired (u ∷ us) (v ∷ vs) e = ap (λ xs. v ∷ xs) (seconds_paired us vs (omega arith))
 
-pub paired_columns : (ds : List Derivation) → paired (map (model_of First) ds) (map (model_of Second) ds) ≡ ds
+pub paired_columns : (ds : List Derivation) → paired (map (λ d. d.from) ds) (map (λ d. d.to) ds) ≡ ds
 paired_columns [] = refl
 paired_columns (d ∷ ds) = ap (λ xs. d ∷ xs) (paired_columns ds)
 
-pub length_column : (side : Side) (ds : List Derivation) → length (column side ds) ≡ 2 * length ds
-length_column side ds = length_words (map (model_of side) ds) ∙ ap (λ k. 2 * k) (length-map ds (model_of side))
+pub length_column : (f : Derivation → ℕ) (ds : List Derivation) → length (column f ds) ≡ 2 * length ds
+length_column f ds = length_words (map f ds) ∙ ap (λ k. 2 * k) (length-map ds f)
+
+pub length_firsts : (ds : List Derivation) → length (first_models ds) ≡ 2 * length ds
+length_firsts ds = length_column (λ d. d.from) ds
+
+pub length_seconds : (ds : List Derivation) → length (second_models ds) ≡ 2 * length ds
+length_seconds ds = length_column (λ d. d.to) ds
 
 -- the two columns of derivations, split again, are the derivations
-pub split_columns : (ds : List Derivation) → derivations (take (2 * length ds) (column First ds ++ column Second ds)) (drop (2 * length ds) (column First ds ++ column Second ds)) ≡ ds
+pub split_columns : (ds : List Derivation) → derivations (take (2 * length ds) (first_models ds ++ second_models ds)) (drop (2 * length ds) (first_models ds ++ second_models ds)) ≡ ds
 split_columns ds =
-    let l : length (column First ds) ≡ 2 * length ds = length_column First ds in
-    ap (λ xs. derivations xs (drop (2 * length ds) (column First ds ++ column Second ds))) (take_at (column First ds) (column Second ds) (2 * length ds) l)
-    ∙ ap (derivations (column First ds)) (drop_at (column First ds) (column Second ds) (2 * length ds) l)
-    ∙ ap (λ us. paired us (numbers (column Second ds))) (numbers_words (map (model_of First) ds))
-    ∙ ap (paired (map (model_of First) ds)) (numbers_words (map (model_of Second) ds))
+    let l : length (first_models ds) ≡ 2 * length ds = length_firsts ds in
+    ap (λ xs. derivations xs (drop (2 * length ds) (first_models ds ++ second_models ds))) (take_at (first_models ds) (second_models ds) (2 * length ds) l)
+    ∙ ap (derivations (first_models ds)) (drop_at (first_models ds) (second_models ds) (2 * length ds) l)
+    ∙ ap (λ us. paired us (numbers (second_models ds))) (numbers_words (map (λ d. d.from) ds))
+    ∙ ap (paired (map (λ d. d.from) ds)) (numbers_words (map (λ d. d.to) ds))
     ∙ paired_columns ds

@@ -1,29 +1,23 @@
--- Words and columns of words written into a buffer.
-use Rattle.std.proofs.Common.{◌≡◌, ℕ, ◌+◌, ◌*◌, ◌/◌, ◌%◌, ◌<◌, ◌≤◌, List, [], ◌∷◌, map, length, get_or, take, set, sym, ap, ◌∙◌, arith}
+-- A column of words written into a buffer, one more word at a time.
+use Rattle.std.proofs.Common.{◌≡◌, ℕ, ◌+◌, ◌*◌, ◌<◌, ◌≤◌, List, [], ◌∷◌, ◌++◌, map, length, get_or, take, sym, ap, ◌∙◌, arith}
 use Rattle.std.proofs.lemmas.List.{map_more, length-take-le}
 use Rattle.book.specs.declared.derivation.Derivation.{Derivation}
-use Rattle.bookfile.specs.declared.writing.Side.{Side}
-use Rattle.bookfile.specs.Files.{words, model_of, column}
-use Rattle.bookfile.specs.Placing.{placed}
+use Rattle.bookfile.specs.Files.{words, column}
+use Rattle.text.specs.Placing.{placed}
 use Rattle.bookfile.proofs.Arrays.{length_column, words_append}
-use Rattle.bookfile.proofs.Placing.{placed_one, placed_more, placed_append}
-
-pub placed_word : (d : List ℕ) (at n : ℕ) → at + 2 ≤ length d → set (set d at (n % 256)) (at + 1) (n / 256) ≡ placed d at (words (n ∷ []))
-placed_word d at n h =
-    ap (λ xs. set xs (at + 1) (n / 256)) (placed_one d at (n % 256) (omega arith))
-    ∙ placed_more d at (n % 256 ∷ []) (n / 256) (omega arith)
+use Rattle.text.proofs.Placing.{placed_append}
 
 -- one more word of a column
-pub column_more : (side : Side) (d0 d1 d2 : List ℕ) (at end i : ℕ) (ds : List Derivation) (e : Derivation) → i < length ds → at + 2 * length ds ≤ length d0
-    → end ≡ at + 2 * i → d1 ≡ placed d0 at (column side (take i ds)) → d2 ≡ placed d1 end (words (model_of side (get_or ds i e) ∷ []))
-    → d2 ≡ placed d0 at (column side (take (i + 1) ds))
-column_more side d0 d1 d2 at end i ds e h room l a b =
-    let f : Derivation → ℕ = model_of side in
+pub column_more : (f : Derivation → ℕ) (d0 d1 d2 : List ℕ) (at end i m : ℕ) (ds : List Derivation) (e : Derivation) → i < length ds → at + 2 * length ds ≤ length d0
+    → end ≡ at + 2 * i → d1 ≡ placed d0 at (column f (take i ds)) → m ≡ f (get_or ds i e) → d2 ≡ placed d1 end (words (m ∷ []))
+    → d2 ≡ placed d0 at (column f (take (i + 1) ds))
+column_more f d0 d1 d2 at end i m ds e h room l a w b =
     let xs : List ℕ = map f (take i ds) in
-    let n : length (words xs) ≡ 2 * i = length_column side (take i ds) ∙ ap (λ k. 2 * k) (length-take-le i ds (omega arith)) in
+    let n : length (words xs) ≡ 2 * i = length_column f (take i ds) ∙ ap (λ k. 2 * k) (length-take-le i ds (omega arith)) in
     let k : end ≡ at + length (words xs) = omega arith in
-    b ∙ ap (λ d. placed d end (words (f (get_or ds i e) ∷ []))) a
-    ∙ ap (λ m. placed (placed d0 at (words xs)) m (words (f (get_or ds i e) ∷ []))) k
-    ∙ placed_append d0 at (words xs) (words (f (get_or ds i e) ∷ [])) (omega arith)
-    ∙ ap (placed d0 at) (sym (words_append xs (f (get_or ds i e) ∷ [])))
+    b ∙ ap (λ d. placed d end (words (m ∷ []))) a
+    ∙ ap (λ j. placed (placed d0 at (words xs)) j (words (m ∷ []))) k
+    ∙ placed_append d0 at (words xs) (words (m ∷ [])) (omega arith)
+    ∙ ap (placed d0 at) (sym (words_append xs (m ∷ [])))
+    ∙ ap (λ j. placed d0 at (words (xs ++ (j ∷ [])))) w
     ∙ ap (λ ys. placed d0 at (words ys)) (sym (map_more f ds i e h))

@@ -4,15 +4,16 @@ use Rattle.std.specs.List.{slice_get}
 use Rattle.rising.specs.Lists.{insert}
 use Rattle.book.specs.declared.derivation.Derivation.{Derivation}
 use Rattle.book.specs.declared.refusal.Refusal.{Refusal}
+use Rattle.book.specs.declared.kept.Book.{Book}
 use Rattle.book.specs.Order.{by_models}
-use Rattle.book.specs.Counts.{count_refusal}
 use Rattle.book.specs.Refusals.{unless}
 use Rattle.book.specs.Derivations.{Valid}
 use Rattle.book.specs.Books.{entry_refusal, in_turn}
 use Rattle.book.proofs.Derivations.{some_none}
 use Rattle.book.proofs.Turns.{valid_turns}
 use Rattle.bookfile.specs.declared.checked.BookFile.{BookFile}
-use Rattle.bookfile.specs.Checked.{count_shown, shown, entering}
+use Rattle.bookfile.specs.Checked.{count_shown, shown, entering, Enters, EntersAll}
+use Rattle.bookfile.proofs.Files.{within_count}
 
 pub nth_within : {X : Type 0} (xs : List X) (i : ℕ) (x : X) → Some x ≡ slice_get xs i → i < length xs
 nth_within [] i x e = absurd (some_none x e)
@@ -43,13 +44,19 @@ module _ (n : ℕ) (ds es : List Derivation) (i : ℕ) where
   pub turns_end : None ≡ slice_get es i → in_turn n ds (drop i es) ≡ Ok ds
   turns_end h = ap (in_turn n ds) (drop_end es i h)
 
--- all derivations of a file, from what becomes of them in turn
-
-pub entering_is : (f : BookFile) (r : Result (List Derivation) Refusal) → count_refusal (count_shown f) ≡ None → in_turn (count_shown f) [] (shown f) ≡ r → entering f ≡ r
-entering_is f r h e = ap (λ (o : Option Refusal). unless o (in_turn (count_shown f) [] (shown f))) h ∙ e
-
 pub all_stand : (n : ℕ) (ds es : List Derivation) → in_turn n [] es ≡ Ok ds → Valid n es → ds ≡ es
 all_stand n ds es h v = let e = valid_turns n es v in cc
 
 pub none_refused : (n : ℕ) (es : List Derivation) (r : Refusal) → in_turn n [] es ≡ Err r → Valid n es → ⊥
 none_refused n es r h v = let e = valid_turns n es v in let z : ◌≡◌ {A = ℕ} 0 1 = cc in omega arith
+
+-- a book that a valid file is entered into has all of its derivations
+
+entering_valid : (f : BookFile) → Valid (count_shown f) (shown f) → entering f ≡ Ok (shown f)
+entering_valid f v =
+    ap (λ (o : Option Refusal). unless o (in_turn (count_shown f) [] (shown f))) (within_count (count_shown f) v.some v.most)
+    ∙ valid_turns (count_shown f) (shown f) v
+
+pub enters_all : (f : BookFile) (r : Result Book Refusal) → Enters f r → EntersAll f r
+enters_all f (Ok b) h = λ v. let a = h.0 in let e = entering_valid f v in cc
+enters_all f (Err e) h = λ v. let a = entering_valid f v in let z : ◌≡◌ {A = ℕ} 0 1 = cc in omega arith

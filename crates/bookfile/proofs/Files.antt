@@ -1,5 +1,5 @@
 -- Accepted are exactly the files of valid books, and a file is that of one book alone.
-use Rattle.std.proofs.Common.{◌≡◌, ℕ, suc, ◌+◌, ◌*◌, ◌/◌, ◌%◌, ◌<◌, ◌≤◌, Bool, true, false, cond, ◌||◌, eqb, ltb, List, [], ◌∷◌, ◌++◌, map, length, take, drop, Some, None, Ok, Err, Option, Result, sym, refl, ap, ◌∙◌, subst, arith}
+use Rattle.std.proofs.Common.{◌≡◌, ℕ, suc, ◌+◌, ◌*◌, ◌/◌, ◌%◌, ◌≤◌, Bool, true, false, cond, ◌||◌, eqb, ltb, List, [], ◌∷◌, ◌++◌, map, length, take, drop, Some, None, Ok, Err, Option, Result, sym, refl, ap, ◌∙◌, subst, arith}
 use Rattle.std.specs.Option.{option_map}
 use Rattle.std.proofs.lemmas.List.{take-append-drop, length-append, length-map, length-take-le, length-drop}
 use Rattle.std.proofs.lemmas.Bool.{or_parts, or_from, ltb-false, le-ltb, eqb-true, eq-eqb}
@@ -13,11 +13,10 @@ use Rattle.book.proofs.Derivations.{some_none}
 use Rattle.bookfile.specs.declared.checked.BookFile.{BookFile}
 use Rattle.bookfile.specs.declared.refusal.FileRefusal.{FileRefusal}
 use Rattle.bookfile.specs.declared.refusal.FileRefusal.TheVariants.{Book, WrongLength, TooMany}
-use Rattle.bookfile.specs.declared.writing.Side.TheVariants.{First, Second}
-use Rattle.bookfile.specs.Files.{words, numbers, derivations, model_of, column, file, count_in, derivations_in}
+use Rattle.bookfile.specs.Files.{words, numbers, derivations, first_models, second_models, file, count_in, derivations_in}
 use Rattle.bookfile.specs.Table.{places_refusal, sizes_refusal, file_refusal}
 use Rattle.bookfile.specs.Checked.{count_shown, shown, Splits, Accepts, Reads}
-use Rattle.bookfile.proofs.Arrays.{Bytes, bytes_take, bytes_drop, length_column, words_numbers, length_numbers, firsts_paired, seconds_paired, split_columns}
+use Rattle.bookfile.proofs.Arrays.{Bytes, bytes_take, bytes_drop, length_firsts, length_seconds, words_numbers, length_numbers, firsts_paired, seconds_paired, split_columns}
 use Rattle.bookfile.proofs.Table.{first_none, mapped_none, places_valid, valid_places}
 
 -- the checks of the sizes
@@ -40,25 +39,27 @@ sizes_none true b x e = absurd (some_none TooMany e)
 sizes_none false true x e = (refl, refl, e)
 sizes_none false false x e = absurd (some_none WrongLength e)
 
--- the file of a valid book is accepted
-
-pub file_accepted : (n : ℕ) (ds : List Derivation) → Valid n ds → file_refusal (file n ds) ≡ None
-file_accepted n ds v =
-    let rest : List ℕ = column First ds ++ column Second ds in
-    let d : ℕ = length ds in
+-- the sizes in front, read
+sized : (n d : ℕ) (rest : List ℕ) → file_refusal (words (n ∷ (d ∷ [])) ++ rest) ≡ sizes_refusal n d rest
+sized n d rest =
     let x : n % 256 + 256 * (n / 256) ≡ n = omega arith in
     let y : d % 256 + 256 * (d / 256) ≡ d = omega arith in
-    let l : length rest ≡ 4 * d = omega (arith, length-append (column First ds) (column Second ds), length_column First ds, length_column Second ds) in
-    ap (λ m. sizes_refusal m (d % 256 + 256 * (d / 256)) rest) x
-    ∙ ap (λ m. sizes_refusal n m rest) y
-    ∙ rw (within_count n v.some v.most, le-ltb 2048 d v.few, eq-eqb (length rest) (4 * d) l) (ap (places_refusal n None) (split_columns ds) ∙ valid_places n None ds v.proper v.rises)
+    ap (λ m. sizes_refusal m (d % 256 + 256 * (d / 256)) rest) x ∙ ap (λ m. sizes_refusal n m rest) y
+
+-- the file of a valid book is accepted
+pub file_accepted : (n : ℕ) (ds : List Derivation) → Valid n ds → file_refusal (file n ds) ≡ None
+file_accepted n ds v =
+    let rest : List ℕ = first_models ds ++ second_models ds in
+    let l : length rest ≡ 4 * length ds = omega (arith, length-append (first_models ds) (second_models ds), length_firsts ds, length_seconds ds) in
+    sized n (length ds) rest
+    ∙ rw (within_count n v.some v.most, le-ltb 2048 (length ds) v.few, eq-eqb (length rest) (4 * length ds) l) (ap (places_refusal n None) (split_columns ds) ∙ valid_places n None ds v.proper v.rises)
 
 -- what is accepted is the file of a valid book
 
 record Holds (n d : ℕ) (rest : List ℕ) (ds : List Derivation) : Type 0 where
   valid : Valid n ds
   many : length ds ≡ d
-  whole : rest ≡ column First ds ++ column Second ds
+  whole : rest ≡ first_models ds ++ second_models ds
 
 -- the sizes of what is accepted, and that it is valid
 record Sizes (n d : ℕ) (rest : List ℕ) (ds : List Derivation) : Type 0 where
@@ -82,7 +83,7 @@ sizes_valid n d rest e =
     let nu : length (numbers us) ≡ d = length_numbers us ∙ (omega arith) in
     let nv : length (numbers vs) ≡ d = length_numbers vs ∙ (omega arith) in
     let f = places_valid n None (derivations us vs) t.2 in
-    let many : length (derivations us vs) ≡ d = sym (length-map (derivations us vs) (model_of First)) ∙ ap length (firsts_paired (numbers us) (numbers vs) (nu ∙ sym nv)) ∙ nu in
+    let many : length (derivations us vs) ≡ d = sym (length-map (derivations us vs) (λ d. d.from)) ∙ ap length (firsts_paired (numbers us) (numbers vs) (nu ∙ sym nv)) ∙ nu in
     record {
       firsts_long = lu;
       seconds_long = lv;
@@ -96,14 +97,14 @@ sizes_hold n d rest h e =
     let us : List ℕ = take (2 * d) rest in
     let vs : List ℕ = drop (2 * d) rest in
     let z = sizes_valid n d rest e in
-    let mf : map (model_of First) (derivations us vs) ≡ numbers us = firsts_paired (numbers us) (numbers vs) z.alike in
-    let ms : map (model_of Second) (derivations us vs) ≡ numbers vs = seconds_paired (numbers us) (numbers vs) z.alike in
+    let mf : map (λ d. d.from) (derivations us vs) ≡ numbers us = firsts_paired (numbers us) (numbers vs) z.alike in
+    let ms : map (λ d. d.to) (derivations us vs) ≡ numbers vs = seconds_paired (numbers us) (numbers vs) z.alike in
     record {
       valid = z.valid;
       many = z.many;
       whole = sym (take-append-drop (2 * d) rest)
           ∙ ap (λ xs. xs ++ vs) (sym (words_numbers us d (bytes_take (2 * d) rest h) z.firsts_long)) ∙ ap (λ xs. words (numbers us) ++ xs) (sym (words_numbers vs d (bytes_drop (2 * d) rest h) z.seconds_long))
-          ∙ ap (λ xs. words xs ++ words (numbers vs)) (sym mf) ∙ ap (λ xs. column First (derivations us vs) ++ words xs) (sym ms);
+          ∙ ap (λ xs. words xs ++ words (numbers vs)) (sym mf) ∙ ap (λ xs. first_models (derivations us vs) ++ words xs) (sym ms);
     }
 
 -- what an accepted file says is valid
@@ -114,56 +115,27 @@ accepted_valid (a ∷ (b ∷ [])) e = absurd (some_none WrongLength e)
 accepted_valid (a ∷ (b ∷ (c ∷ []))) e = absurd (some_none WrongLength e)
 accepted_valid (a ∷ (b ∷ (c ∷ (d ∷ rest)))) e = (sizes_valid (a + 256 * b) (c + 256 * d) rest e).valid
 
--- a file cut into its two sizes and its rest
-pub record Cut (bytes : List ℕ) (n d : ℕ) (rest : List ℕ) : Type 0 where
-  pub a : ℕ
-  pub b : ℕ
-  pub c : ℕ
-  pub e : ℕ
-  pub whole : bytes ≡ a ∷ (b ∷ (c ∷ (e ∷ rest)))
-  pub n_is : n ≡ a + 256 * b
-  pub d_is : d ≡ c + 256 * e
-
-cut_refusal : (bytes : List ℕ) (n d : ℕ) (rest : List ℕ) → Cut bytes n d rest → file_refusal bytes ≡ sizes_refusal n d rest
-cut_refusal bytes n d rest k = ap file_refusal k.whole ∙ ap (λ m. sizes_refusal m (k.c + 256 * k.e) rest) (sym k.n_is) ∙ ap (λ m. sizes_refusal n m rest) (sym k.d_is)
-
-cut_file : (bytes : List ℕ) (n d : ℕ) (rest : List ℕ) (ds : List Derivation) → Bytes bytes → Cut bytes n d rest → Holds n d rest ds → bytes ≡ file n ds
-cut_file bytes n d rest ds h k o =
-    let P : List ℕ → Type 0 = λ bs. Bytes bs in
-    let g : Bytes (k.a ∷ (k.b ∷ (k.c ∷ (k.e ∷ rest)))) = subst P k.whole h in
-    let la : k.a < 256 = g 0 in
-    let lb : k.b < 256 = g 1 in
-    let lc : k.c < 256 = g 2 in
-    let le : k.e < 256 = g 3 in
-    let many : length ds ≡ d = o.many in
-    let x : k.a ≡ n % 256 = omega arith in
-    let y : k.b ≡ n / 256 = omega arith in
-    let z : k.c ≡ length ds % 256 = omega arith in
-    let w : k.e ≡ length ds / 256 = omega arith in
-    let v : rest ≡ column First ds ++ column Second ds = o.whole in
-    let u = k.whole in
-    cc
-
 -- what the check behind the sizes answers, as an answer for the whole file
 
-pub cut_answers : (bytes : List ℕ) (n d : ℕ) (rest : List ℕ) (r : Result BookFile FileRefusal) → Cut bytes n d rest → Splits n d rest r → Answers (file_refusal bytes) r
-cut_answers bytes n d rest (Ok f) k j = cut_refusal bytes n d rest k ∙ j.0
-cut_answers bytes n d rest (Err e) k j = cut_refusal bytes n d rest k ∙ j
+pub cut_answers : (bytes : List ℕ) (n d : ℕ) (rest : List ℕ) (r : Result BookFile FileRefusal) → bytes ≡ words (n ∷ (d ∷ [])) ++ rest → Splits n d rest r → Answers (file_refusal bytes) r
+cut_answers bytes n d rest (Ok f) k j = ap file_refusal k ∙ sized n d rest ∙ j.0
+cut_answers bytes n d rest (Err e) k j = ap file_refusal k ∙ sized n d rest ∙ j
 
 pub refused_accepts : (bytes : List ℕ) (e : FileRefusal) → file_refusal bytes ≡ Some e → (n : ℕ) (ds : List Derivation) → Valid n ds → bytes ≡ file n ds → ⊥
 refused_accepts bytes e q n ds v w = some_none e (sym q ∙ ap file_refusal w ∙ file_accepted n ds v)
 
-pub cut_accepts : (bytes : List ℕ) (n d : ℕ) (rest : List ℕ) (r : Result BookFile FileRefusal) → Bytes bytes → Cut bytes n d rest → Splits n d rest r → Accepts bytes r
-cut_accepts bytes n d rest (Err e) h k j = refused_accepts bytes e (cut_refusal bytes n d rest k ∙ j)
+pub cut_accepts : (bytes : List ℕ) (n d : ℕ) (rest : List ℕ) (r : Result BookFile FileRefusal) → Bytes bytes → bytes ≡ words (n ∷ (d ∷ [])) ++ rest → Splits n d rest r → Accepts bytes r
+cut_accepts bytes n d rest (Err e) h k j = refused_accepts bytes e (ap file_refusal k ∙ sized n d rest ∙ j)
 cut_accepts bytes n d rest (Ok f) h k j =
     let P : List ℕ → Type 0 = λ bs. Bytes bs in
-    let g : Bytes (k.a ∷ (k.b ∷ (k.c ∷ (k.e ∷ rest)))) = subst P k.whole h in
+    let g : Bytes (words (n ∷ (d ∷ [])) ++ rest) = subst P k h in
     let ds : List Derivation = derivations (take (2 * d) rest) (drop (2 * d) rest) in
     let o : Holds n d rest ds = sizes_hold n d rest (λ i. g (suc (suc (suc (suc i))))) j.0 in
     let s : shown f ≡ ds = ap (λ us. derivations us f.seconds.now) j.2 ∙ ap (derivations (take (2 * d) rest)) j.3 in
+    let w : bytes ≡ file n ds = k ∙ ap (λ m. words (n ∷ (m ∷ [])) ++ rest) (sym o.many) ∙ ap (λ xs. words (n ∷ (length ds ∷ [])) ++ xs) o.whole in
     let Q : ℕ → Type 0 = λ m. Valid m ds × (bytes ≡ file m ds) in
     let R : List Derivation → Type 0 = λ es. Valid (count_shown f) es × (bytes ≡ file (count_shown f) es) in
-    subst R (sym s) (subst Q (sym j.1) (o.valid, cut_file bytes n d rest ds h k o))
+    subst R (sym s) (subst Q (sym j.1) (o.valid, w))
 
 -- a file is that of one book alone
 pub file_same : (n m : ℕ) (ds es : List Derivation) → file n ds ≡ file m es → (n ≡ m) × (ds ≡ es)
@@ -172,11 +144,11 @@ file_same n m ds es e =
     let b : n / 256 ≡ m / 256 = cc in
     let c : length ds % 256 ≡ length es % 256 = cc in
     let d : length ds / 256 ≡ length es / 256 = cc in
-    let r : column First ds ++ column Second ds ≡ column First es ++ column Second es = cc in
+    let r : first_models ds ++ second_models ds ≡ first_models es ++ second_models es = cc in
     let l : length ds ≡ length es = omega arith in (
       omega arith,
       sym (split_columns ds)
-          ∙ ap (λ k. derivations (take (2 * k) (column First ds ++ column Second ds)) (drop (2 * k) (column First ds ++ column Second ds))) l
+          ∙ ap (λ k. derivations (take (2 * k) (first_models ds ++ second_models ds)) (drop (2 * k) (first_models ds ++ second_models ds))) l
           ∙ ap (λ xs. derivations (take (2 * length es) xs) (drop (2 * length es) xs)) r
           ∙ split_columns es,
     )
@@ -188,11 +160,11 @@ count_in_file n ds = let e : n % 256 + 256 * (n / 256) ≡ n = omega arith in e
 pub derivations_in_file : (n : ℕ) (ds : List Derivation) → derivations_in (file n ds) ≡ ds
 derivations_in_file n ds =
     let e : length ds % 256 + 256 * (length ds / 256) ≡ length ds = omega arith in
-    ap (λ (k : ℕ). derivations (take (2 * k) (column First ds ++ column Second ds)) (drop (2 * k) (column First ds ++ column Second ds))) e ∙ split_columns ds
+    ap (λ (k : ℕ). derivations (take (2 * k) (first_models ds ++ second_models ds)) (drop (2 * k) (first_models ds ++ second_models ds))) e ∙ split_columns ds
 
 pub accepts_reads : (bytes : List ℕ) (r : Result BookFile FileRefusal) → Accepts bytes r → Reads bytes r
 accepts_reads bytes (Err e) h = tt
 accepts_reads bytes (Ok f) h = λ n ds e. file_same (count_shown f) n (shown f) ds (sym h.1 ∙ e)
 
 pub length_file : (n : ℕ) (ds : List Derivation) → length (file n ds) ≡ 4 + 4 * length ds
-length_file n ds = omega (arith, length-append (column First ds) (column Second ds), length_column First ds, length_column Second ds)
+length_file n ds = omega (arith, length-append (first_models ds) (second_models ds), length_firsts ds, length_seconds ds)

@@ -1,9 +1,7 @@
 pub mod Arrays
-pub mod Placing
 pub mod Columns
 pub mod Table
 pub mod Files
 pub mod Walking
-pub mod Places
 pub mod Entering
 pub mod Written

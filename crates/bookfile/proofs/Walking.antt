@@ -1,24 +1,24 @@
 -- The walk over the two arrays, two bytes of each at a time.
-use Rattle.std.proofs.Common.{◌≡◌, ℕ, ◌+◌, ◌-◌, ◌*◌, ◌<◌, ◌≤◌, List, [], ◌∷◌, length, get_or, take, drop, Some, None, Option, sym, refl, ap, ◌∙◌, arith}
-use Rattle.std.proofs.lemmas.List.{drop_more, take_rest}
+use Rattle.std.proofs.Common.{◌≡◌, ℕ, zero, suc, ◌+◌, ◌*◌, ◌/◌, ◌%◌, ◌<◌, ◌≤◌, List, [], ◌∷◌, ◌++◌, length, get_or, take, drop, w16, Some, None, Option, MatchOption, sym, refl, ap, ◌∙◌, arith}
+use Rattle.std.proofs.lemmas.List.{length-drop, get_or-drop}
+use Rattle.std.proofs.lemmas.Option.{slice_get_past, slice_get-get_or}
+use Rattle.std.specs.List.{slice_get}
+use Rattle.std.specs.Int.{from_le_bytes}
 use Rattle.book.specs.declared.derivation.Derivation.{Derivation}
-use Rattle.book.specs.Refusals.{first}
-use Rattle.bookfile.specs.declared.refusal.FileRefusal.{FileRefusal}
-use Rattle.bookfile.specs.Files.{numbers, paired, derivations}
-use Rattle.bookfile.specs.Table.{place_refusal, places_refusal}
+use Rattle.bookfile.specs.Files.{words, numbers, paired, derivations}
 
-two_front : (xs : List ℕ) → 2 ≤ length xs → xs ≡ get_or xs 0 0 ∷ (get_or xs 1 0 ∷ take (length xs - 2) (drop 2 xs))
-two_front xs h =
-    drop_more xs 0 0 (omega arith)
-    ∙ ap (λ ys. get_or xs 0 0 ∷ ys) (drop_more xs 1 0 (omega arith) ∙ ap (λ ys. get_or xs 1 0 ∷ ys) (sym (take_rest xs 2)))
-
-pub four_front : (xs : List ℕ) → 4 ≤ length xs
-    → xs ≡ get_or xs 0 0 ∷ (get_or xs 1 0 ∷ (get_or xs 2 0 ∷ (get_or xs 3 0 ∷ take (length xs - 4) (drop 4 xs))))
-four_front xs h =
-    drop_more xs 0 0 (omega arith)
-    ∙ ap (λ ys. get_or xs 0 0 ∷ ys) (drop_more xs 1 0 (omega arith)
-    ∙ ap (λ ys. get_or xs 1 0 ∷ ys) (drop_more xs 2 0 (omega arith)
-    ∙ ap (λ ys. get_or xs 2 0 ∷ ys) (drop_more xs 3 0 (omega arith) ∙ ap (λ ys. get_or xs 3 0 ∷ ys) (sym (take_rest xs 4)))))
+-- the number of the two bytes in front
+pub word_front : (bytes word rest : List ℕ) (n : ℕ) → ((i : ℕ) → get_or bytes i 0 < 256) → 2 ≤ length bytes
+    → word ≡ take 2 bytes → rest ≡ drop 2 bytes → n ≡ from_le_bytes w16 word → bytes ≡ words (n ∷ []) ++ rest
+word_front [] word rest n h l e f g = absurd (omega arith)
+word_front (a ∷ []) word rest n h l e f g = absurd (omega arith)
+word_front (a ∷ (b ∷ bs)) word rest n h l e f g =
+    let la : a < 256 = h 0 in
+    let lb : b < 256 = h 1 in
+    let m : n ≡ a + b * 256 = g ∙ ap (from_le_bytes w16) e in
+    let x : a ≡ n % 256 = omega arith in
+    let y : b ≡ n / 256 = omega arith in
+    cc
 
 numbers_short : (xs : List ℕ) → length xs < 2 → numbers xs ≡ []
 numbers_short [] h = refl
@@ -35,27 +35,37 @@ seconds_end xs ys h = ap (paired (numbers xs)) (numbers_short ys h) ∙ paired_n
 pub firsts_end : (xs ys : List ℕ) → length xs < 2 → derivations xs ys ≡ []
 firsts_end xs ys h = ap (λ us. paired us (numbers ys)) (numbers_short xs h)
 
+numbers_step : (u : ℕ) (xs more : List ℕ) → xs ≡ words (u ∷ []) ++ more → numbers xs ≡ u ∷ numbers more
+numbers_step u xs more e =
+    let n : u % 256 + 256 * (u / 256) ≡ u = omega arith in
+    ap numbers e ∙ ap (λ m. m ∷ numbers more) n
+
 -- one place of the walk
-pub walk_step : (n : ℕ) (before : Option Derivation) (xs ys : List ℕ) (d : Derivation) → 2 ≤ length xs → 2 ≤ length ys
-    → d.from ≡ get_or xs 0 0 + 256 * get_or xs 1 0 → d.to ≡ get_or ys 0 0 + 256 * get_or ys 1 0
-    → places_refusal n before (derivations xs ys)
-    ≡ first (place_refusal n before d) (places_refusal n (Some d) (derivations (take (length xs - 2) (drop 2 xs)) (take (length ys - 2) (drop 2 ys))))
-walk_step n before xs ys d h k e f =
-    let us : List ℕ = take (length xs - 2) (drop 2 xs) in
-    let vs : List ℕ = take (length ys - 2) (drop 2 ys) in
-    let same : record { from = get_or xs 0 0 + 256 * get_or xs 1 0; to = get_or ys 0 0 + 256 * get_or ys 1 0 } ≡ d = λ i. record { from = sym e i; to = sym f i } in
-    ap (λ zs. places_refusal n before (derivations zs ys)) (two_front xs h)
-    ∙ ap (λ zs. places_refusal n before (derivations (get_or xs 0 0 ∷ (get_or xs 1 0 ∷ us)) zs)) (two_front ys k)
-    ∙ ap (λ (x : Derivation). first (place_refusal n before x) (places_refusal n (Some x) (derivations us vs))) same
+pub walk_step : (u v : ℕ) (xs ys us vs : List ℕ) → xs ≡ words (u ∷ []) ++ us → ys ≡ words (v ∷ []) ++ vs
+    → derivations xs ys ≡ record { from = u; to = v } ∷ derivations us vs
+walk_step u v xs ys us vs e f =
+    ap (λ zs. paired zs (numbers ys)) (numbers_step u xs us e) ∙ ap (paired (u ∷ numbers us)) (numbers_step v ys vs f)
 
-pub walk_goes : (n : ℕ) (before : Option Derivation) (xs ys : List ℕ) (d : Derivation) → 2 ≤ length xs → 2 ≤ length ys
-    → d.from ≡ get_or xs 0 0 + 256 * get_or xs 1 0 → d.to ≡ get_or ys 0 0 + 256 * get_or ys 1 0 → place_refusal n before d ≡ None
-    → places_refusal n before (derivations xs ys) ≡ places_refusal n (Some d) (derivations (take (length xs - 2) (drop 2 xs)) (take (length ys - 2) (drop 2 ys)))
-walk_goes n before xs ys d h k e f o =
-    walk_step n before xs ys d h k e f ∙ ap (λ (p : Option FileRefusal). first p (places_refusal n (Some d) (derivations (take (length xs - 2) (drop 2 xs)) (take (length ys - 2) (drop 2 ys))))) o
+-- past the first places of both arrays
+pub walk_drop : (i : ℕ) (xs ys : List ℕ) → derivations (drop (i * 2) xs) (drop (i * 2) ys) ≡ drop i (derivations xs ys)
+walk_drop zero xs ys = refl
+walk_drop (suc i) [] ys = firsts_end (drop (suc i * 2) []) (drop (suc i * 2) ys) (omega (arith, length-drop {A = ℕ} (suc i * 2) []))
+walk_drop (suc i) (a ∷ []) ys =
+    firsts_end (drop (suc i * 2) (a ∷ [])) (drop (suc i * 2) ys) (omega (arith, length-drop (suc i * 2) (a ∷ [])))
+walk_drop (suc i) (a ∷ (b ∷ xs)) [] =
+    seconds_end (drop (suc i * 2) (a ∷ (b ∷ xs))) (drop (suc i * 2) []) (omega (arith, length-drop {A = ℕ} (suc i * 2) []))
+walk_drop (suc i) (a ∷ (b ∷ xs)) (c ∷ []) =
+    seconds_end (drop (suc i * 2) (a ∷ (b ∷ xs))) (drop (suc i * 2) (c ∷ [])) (omega (arith, length-drop (suc i * 2) (c ∷ [])))
+walk_drop (suc i) (a ∷ (b ∷ xs)) (c ∷ (d ∷ ys)) =
+    let k : suc i * 2 ≡ suc (suc (i * 2)) = omega arith in
+    ap (λ n. derivations (drop n (a ∷ (b ∷ xs))) (drop n (c ∷ (d ∷ ys)))) k ∙ walk_drop i xs ys
 
-pub walk_stops : (n : ℕ) (before : Option Derivation) (xs ys : List ℕ) (d : Derivation) (r : FileRefusal) → 2 ≤ length xs → 2 ≤ length ys
-    → d.from ≡ get_or xs 0 0 + 256 * get_or xs 1 0 → d.to ≡ get_or ys 0 0 + 256 * get_or ys 1 0 → place_refusal n before d ≡ Some r
-    → places_refusal n before (derivations xs ys) ≡ Some r
-walk_stops n before xs ys d r h k e f o =
-    walk_step n before xs ys d h k e f ∙ ap (λ (p : Option FileRefusal). first p (places_refusal n (Some d) (derivations (take (length xs - 2) (drop 2 xs)) (take (length ys - 2) (drop 2 ys))))) o
+-- what comes next past the first places is what stands at the place behind them
+pub next_at : (ds us more : List Derivation) (i : ℕ) (r : Option Derivation) → us ≡ drop i ds
+    → MatchOption r ((us ≡ []) × (more ≡ [])) (λ d. us ≡ d ∷ more) → r ≡ slice_get ds i
+next_at ds us more i None e h = let n = ap length (sym e ∙ h.0) in sym (slice_get_past ds i (omega (arith, length-drop i ds)))
+next_at ds us more i (Some d) e h =
+    let n : length (drop i ds) ≡ suc (length more) = ap length (sym e ∙ h) in
+    let z : i + 0 ≡ i = omega arith in
+    let g : get_or ds i d ≡ d = ap (λ k. get_or ds k d) (sym z) ∙ sym (get_or-drop i ds 0 d) ∙ ap (λ l. get_or l 0 d) (sym e ∙ h) in
+    sym (slice_get-get_or ds i d (omega (arith, length-drop i ds)) ∙ ap Some g)

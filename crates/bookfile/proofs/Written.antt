@@ -3,13 +3,12 @@ use Rattle.std.proofs.Common.{◌≡◌, ℕ, ◌+◌, ◌*◌, ◌≤◌, List,
 use Rattle.std.proofs.lemmas.List.{take_at}
 use Rattle.book.specs.declared.derivation.Derivation.{Derivation}
 use Rattle.book.specs.Derivations.{Valid}
-use Rattle.bookfile.specs.declared.writing.Side.TheVariants.{First, Second}
-use Rattle.bookfile.specs.Files.{words, column, file}
-use Rattle.bookfile.specs.Placing.{placed}
+use Rattle.bookfile.specs.Files.{words, first_models, second_models, file}
+use Rattle.text.specs.Placing.{placed}
 use Rattle.bookfile.specs.Table.{file_refusal}
 use Rattle.bookfile.specs.Writing.{Writes, ReadsBack}
-use Rattle.bookfile.proofs.Arrays.{length_column}
-use Rattle.bookfile.proofs.Placing.{placed_append, placed_three}
+use Rattle.bookfile.proofs.Arrays.{length_firsts, length_seconds}
+use Rattle.text.proofs.Placing.{placed_append, placed_three}
 use Rattle.bookfile.proofs.Files.{file_accepted, file_same, length_file}
 
 -- the four writes of a file, one behind another
@@ -19,24 +18,24 @@ pub record Steps (n : ℕ) (ds : List Derivation) (out d1 d2 d3 d4 : List ℕ) (
   pub models_end : e1 ≡ 0 + 2
   pub sizes : d2 ≡ placed d1 e1 (words (length ds ∷ []))
   pub sizes_end : e2 ≡ e1 + 2
-  pub firsts : d3 ≡ placed d2 e2 (column First ds)
+  pub firsts : d3 ≡ placed d2 e2 (first_models ds)
   pub firsts_end : e3 ≡ e2 + 2 * length ds
-  pub seconds : d4 ≡ placed d3 e3 (column Second ds)
+  pub seconds : d4 ≡ placed d3 e3 (second_models ds)
   pub seconds_end : e4 ≡ e3 + 2 * length ds
 
 pub written : {n : ℕ} {ds : List Derivation} {out d1 d2 d3 d4 : List ℕ} {e1 e2 e3 e4 : ℕ} → Steps n ds out d1 d2 d3 d4 e1 e2 e3 e4 → Writes n ds out (Ok e4) d4
 written {n} {ds} {out} {d1} {d2} {d3} {d4} {e1} {e2} {e3} {e4} s =
     let room = s.room in
-    let lf = length_column First ds in
-    let ls = length_column Second ds in
+    let lf = length_firsts ds in
+    let ls = length_seconds ds in
     let f1 : e1 ≡ 0 + 2 = s.models_end in
     let f2 : e2 ≡ 0 + 4 = s.sizes_end ∙ (omega arith) in
-    let f3 : e3 ≡ e2 + length (column First ds) = s.firsts_end ∙ (omega arith) in
-    let f4 : e4 ≡ e3 + length (column Second ds) = s.seconds_end ∙ (omega arith) in
+    let f3 : e3 ≡ e2 + length (first_models ds) = s.firsts_end ∙ (omega arith) in
+    let f4 : e4 ≡ e3 + length (second_models ds) = s.seconds_end ∙ (omega arith) in
     let sizes : d2 ≡ placed out 0 (words (n ∷ (length ds ∷ [])))
     = s.sizes ∙ ap (λ d. placed d e1 (words (length ds ∷ []))) s.models ∙ ap (λ k. placed (placed out 0 (words (n ∷ []))) k (words (length ds ∷ []))) f1
     ∙ placed_append out 0 (words (n ∷ [])) (words (length ds ∷ [])) (omega arith) in
-    let t = placed_three out d2 d3 d4 (words (n ∷ (length ds ∷ []))) (column First ds) (column Second ds) e2 e3 e4 sizes f2 s.firsts f3 s.seconds f4 (omega arith) in
+    let t = placed_three out d2 d3 d4 (words (n ∷ (length ds ∷ []))) (first_models ds) (second_models ds) e2 e3 e4 sizes f2 s.firsts f3 s.seconds f4 (omega arith) in
     (omega arith, omega arith, t.1)
 
 pub reads_back : (n : ℕ) (ds : List Derivation) (out : List ℕ) (len : ℕ) (after : List ℕ) → Valid n ds → Writes n ds out (Ok len) after → ReadsBack n ds (Ok len) after

@@ -8,6 +8,7 @@ use Rattle.book.specs.Refusals.{unless}
 use Rattle.book.specs.Derivations.{Valid}
 use Rattle.book.specs.Books.{standing, count_of, is_stale, in_turn}
 use Rattle.bookfile.specs.declared.checked.BookFile.{BookFile}
+use Rattle.bookfile.specs.declared.checked.derivations.Derivations.{Derivations}
 use Rattle.bookfile.specs.declared.refusal.FileRefusal.{FileRefusal}
 use Rattle.bookfile.specs.Files.{derivations, file}
 use Rattle.bookfile.specs.Table.{sizes_refusal}
@@ -15,6 +16,10 @@ use Rattle.bookfile.specs.Table.{sizes_refusal}
 -- the count that a checked file shows
 abbrev pub count_shown : BookFile → ℕ
 count_shown f = f.models
+
+-- the derivations that are left of the two arrays
+abbrev pub left : Derivations → List Derivation
+left ds = derivations ds.firsts.now ds.seconds.now
 
 -- the derivations that a checked file shows
 abbrev pub shown : BookFile → List Derivation

@@ -4,7 +4,7 @@ use Rattle.bookfile.specs.declared.copying.CopyRefusal.{CopyRefusal}
 use Rattle.bookfile.specs.declared.copying.CopyRefusal.TheVariants.{Check, Enter, Write}
 use Rattle.book.specs.Refusals.{number as book_number}
 use Rattle.bookfile.specs.Refusals.{number, write_number}
-use Rattle.bookfile.specs.Placing.{placed}
+use Rattle.text.specs.Placing.{placed}
 use Rattle.bookfile.specs.Table.{file_refusal}
 
 abbrev pub copy_number : CopyRefusal → ℕ

@@ -1,8 +1,6 @@
 -- The bytes of a book file, and the derivations that they are the bytes of.
 use Rattle.std.specs.Prelude.{ℕ, ◌+◌, ◌*◌, ◌/◌, ◌%◌, List, [], ◌∷◌, ◌++◌, map, length, take, drop}
 use Rattle.book.specs.declared.derivation.Derivation.{Derivation}
-use Rattle.bookfile.specs.declared.writing.Side.{Side}
-use Rattle.bookfile.specs.declared.writing.Side.TheVariants.{First, Second}
 
 -- numbers of 16 bits, each its low byte and then its high byte
 abbrev pub words : List ℕ → List ℕ
@@ -25,18 +23,20 @@ paired (u ∷ us) (v ∷ vs) = record { from = u; to = v } ∷ paired us vs
 abbrev pub derivations : List ℕ → List ℕ → List Derivation
 derivations firsts seconds = paired (numbers firsts) (numbers seconds)
 
--- the model on a side of a derivation
-abbrev pub model_of : Side → Derivation → ℕ
-model_of First d = d.from
-model_of Second d = d.to
+-- the bytes of one number of each derivation
+abbrev pub column : (Derivation → ℕ) → List Derivation → List ℕ
+column f ds = words (map f ds)
 
--- the bytes of the models on one side
-abbrev pub column : Side → List Derivation → List ℕ
-column side ds = words (map (model_of side) ds)
+-- the bytes of all first models, and of all second models
+abbrev pub first_models : List Derivation → List ℕ
+first_models ds = column (λ d. d.from) ds
+
+abbrev pub second_models : List Derivation → List ℕ
+second_models ds = column (λ d. d.to) ds
 
 -- the file of a count and a list of derivations: the two sizes, all first models, all second models
 abbrev pub file : ℕ → List Derivation → List ℕ
-file n ds = words (n ∷ (length ds ∷ [])) ++ (column First ds ++ column Second ds)
+file n ds = words (n ∷ (length ds ∷ [])) ++ (first_models ds ++ second_models ds)
 
 -- the count that the bytes of a file say
 abbrev pub count_in : List ℕ → ℕ

@@ -1,6 +1,5 @@
 pub mod Refusals
 pub mod Files
-pub mod Placing
 pub mod Table
 pub mod Checked
 pub mod Writing

@@ -4,7 +4,7 @@ use Rattle.book.specs.declared.derivation.Derivation.{Derivation}
 use Rattle.book.specs.Derivations.{Valid}
 use Rattle.bookfile.specs.declared.refusal.WriteRefusal.{WriteRefusal}
 use Rattle.bookfile.specs.Files.{file}
-use Rattle.bookfile.specs.Placing.{placed}
+use Rattle.text.specs.Placing.{placed}
 use Rattle.bookfile.specs.Table.{file_refusal}
 
 -- the file stands in front, and what is behind it is as it was; or there is too little room, and nothing is touched

@@ -1,5 +1,6 @@
 //! A checked book file.
 pub mod checking;
+pub mod derivations;
 pub mod entering;
 pub mod reading;
 

@@ -1,22 +1,23 @@
 //! Numbers of 16 bits as two bytes, the low byte first.
-ghost use Rattle.std.specs.Prelude.{◌≡◌, ◌+◌, ◌*◌, ◌≤◌, [], ◌∷◌, length};
+ghost use Rattle.std.specs.Prelude.{◌≡◌, ◌+◌, ◌<◌, ◌≤◌, [], ◌∷◌, ◌++◌, length, MatchOption};
 ghost use Rattle.bookfile.specs.Files.{words};
-ghost use Rattle.bookfile.specs.Placing.{placed};
+ghost use Rattle.text.specs.Placing.{placed};
 
-// The number of a low byte and a high byte.
-pub fn number(low: u8, high: u8) -> u16
-    ensures { result ≡ low + 256 * high }
+// The number that the bytes begin with, and what stands behind it.
+pub fn take_word(bytes: &[u8]) -> Option<(u16, &[u8])>
+    ensures { MatchOption result (length bytes.now < 2) (λ p. bytes.now ≡ words (p.0 ∷ []) ++ p.1.now) }
 {
-    low as u16 + 256 * high as u16
+    let (word, rest) = bytes.split_first_chunk()?;
+    Some((u16::from_le_bytes(*word), rest))
 }
 
-// Writes a number, low byte first, and tells where it ends.
+// Writes a number and tells where it ends.
 pub fn put_word(out: &mut [u8], at: usize, n: u16) -> usize
     requires { at + 2 ≤ length out.old }
     ensures end { result ≡ at + 2 }
     ensures bytes { out.new ≡ placed out.old at (words (n ∷ [])) }
 {
-    out[at] = (n % 256) as u8;
-    out[at + 1] = (n / 256) as u8;
-    at + 2
+    let end = at + 2;
+    out[at..end].copy_from_slice(&n.to_le_bytes());
+    end
 }

@@ -1,42 +1,32 @@
 //! Writing a book file.
-ghost use Rattle.std.specs.Prelude.{◌≡◌, ◌+◌, ◌*◌, ◌≤◌, length};
+ghost use Rattle.std.specs.Prelude.{◌≡◌, ℕ, ◌+◌, ◌*◌, ◌≤◌, length};
+ghost use Rattle.book.specs.declared.derivation.Derivation.{Derivation};
 ghost use Rattle.book.specs.Counts.{models};
 ghost use Rattle.book.specs.Books.{standing, count_of};
-ghost use Rattle.bookfile.specs.Files.{model_of, column};
-ghost use Rattle.bookfile.specs.Placing.{placed};
+ghost use Rattle.bookfile.specs.Files.{column};
 ghost use Rattle.bookfile.specs.Writing.{Writes, ReadsBack};
+ghost use Rattle.text.specs.Placing.{placed};
 
 use crate::refusal::WriteRefusal;
 use crate::words::put_word;
 use book::derivation::Derivation;
 use book::kept::Book;
 
-// One of the two models of a derivation.
-#[derive(Clone, Copy)]
-enum Side {
-    First,
-    Second,
-}
-
-// The model on a side.
-fn model(derivation: Derivation, side: Side) -> u16
-    ensures { result ≡ model_of side derivation }
-{
-    match side {
-        Side::First => derivation.from,
-        Side::Second => derivation.to,
-    }
-}
-
-// Writes the models on one side of all derivations, and tells where they end.
-fn put_column(out: &mut [u8], at: usize, derivations: &[Derivation], side: Side) -> usize
-    requires { at + 2 * length derivations.now ≤ length out.old }
+// Writes one model of each derivation, and tells where they end.
+fn put_column<F: Fn(Derivation) -> u16>(
+    out: &mut [u8],
+    at: usize,
+    derivations: &[Derivation],
+    model: F,
+) -> usize
+    requires room { at + 2 * length derivations.now ≤ length out.old }
+    requires callable { F.IsAlwaysCallable model }
     ensures end { result ≡ at + 2 * length derivations.now }
-    ensures bytes { out.new ≡ placed out.old at (column side derivations.now) }
+    ensures bytes { (f : Derivation → ℕ) → ((d : Derivation) (n : ℕ) → F.post model d n → n ≡ f d) → out.new ≡ placed out.old at (column f derivations.now) }
 {
     let mut end = at;
     for derivation in derivations {
-        end = put_word(out, end, model(*derivation, side));
+        end = put_word(out, end, model(*derivation));
     }
     end
 }
@@ -53,6 +43,6 @@ pub fn write(book: &Book, out: &mut [u8]) -> Result<usize, WriteRefusal>
     }
     let models = put_word(out, 0, book.count().models());
     let sizes = put_word(out, models, len as u16);
-    let firsts = put_column(out, sizes, derivations, Side::First);
-    Ok(put_column(out, firsts, derivations, Side::Second))
+    let firsts = put_column(out, sizes, derivations, |derivation| derivation.from);
+    Ok(put_column(out, firsts, derivations, |derivation| derivation.to))
 }

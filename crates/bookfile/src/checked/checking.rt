@@ -2,17 +2,16 @@
 ghost use Rattle.std.specs.Prelude.{None};
 ghost use Rattle.book.specs.Counts.{models};
 ghost use Rattle.book.specs.Refusals.{Answers};
-ghost use Rattle.bookfile.specs.Files.{derivations};
 ghost use Rattle.bookfile.specs.Table.{place_refusal, places_refusal, file_refusal};
-ghost use Rattle.bookfile.specs.Checked.{Reads, Accepts, Splits};
+ghost use Rattle.bookfile.specs.Checked.{left, Reads, Accepts, Splits};
 
 use crate::checked::BookFile;
+use crate::checked::derivations::Derivations;
 use crate::refusal::FileRefusal;
-use crate::words::number;
+use crate::words::take_word;
 use book::count::Count;
 use book::derivation::Derivation;
 use rising::key::Key;
-use std::cmp::Ordering;
 
 // Refuses one derivation, behind the one before it.
 fn check_place(
@@ -23,35 +22,21 @@ fn check_place(
     ensures { Answers (place_refusal (models count) before derivation) result }
 {
     derivation.check(count)?;
-    match before {
-        None => Ok(()),
-        Some(last) => match last.compare(&derivation) {
-            Ordering::Less => Ok(()),
-            Ordering::Equal => Err(FileRefusal::NotRising),
-            Ordering::Greater => Err(FileRefusal::NotRising),
-        },
+    if before.is_none_or(|last| last.compare(&derivation).is_lt()) {
+        Ok(())
+    } else {
+        Err(FileRefusal::NotRising)
     }
 }
 
 // Refuses the first derivation that is not in order, place by place.
-fn check_places(count: Count, firsts: &[u8], seconds: &[u8]) -> Result<(), FileRefusal>
-    ensures { Answers (places_refusal (models count) None (derivations firsts.now seconds.now)) result }
+fn check_places(count: Count, derivations: Derivations<'_>) -> Result<(), FileRefusal>
+    ensures { Answers (places_refusal (models count) None (left derivations.entry)) result }
 {
-    let mut us = firsts;
-    let mut vs = seconds;
     let mut before = None;
-    while let [u0, u1, more_us @ ..] = us {
-        let [v0, v1, more_vs @ ..] = vs else {
-            return Ok(());
-        };
-        let derivation = Derivation {
-            from: number(*u0, *u1),
-            to: number(*v0, *v1),
-        };
+    for derivation in derivations {
         check_place(count, before, derivation)?;
         before = Some(derivation);
-        us = more_us;
-        vs = more_vs;
     }
     Ok(())
 }
@@ -69,7 +54,7 @@ fn check_sizes(models: u16, len: u16, rest: &[u8]) -> Result<BookFile<'_>, FileR
         return Err(FileRefusal::WrongLength);
     }
     let (firsts, seconds) = rest.split_at(half);
-    check_places(count, firsts, seconds)?;
+    check_places(count, Derivations { firsts, seconds })?;
     Ok(BookFile {
         models,
         firsts,
@@ -83,8 +68,7 @@ pub fn check(bytes: &[u8]) -> Result<BookFile<'_>, FileRefusal>
     ensures accepts { Accepts bytes.now result }
     ensures reads { Reads bytes.now result }
 {
-    match bytes {
-        [n0, n1, d0, d1, rest @ ..] => check_sizes(number(*n0, *n1), number(*d0, *d1), rest),
-        _ => Err(FileRefusal::WrongLength),
-    }
+    let (models, rest) = take_word(bytes).ok_or(FileRefusal::WrongLength)?;
+    let (len, rest) = take_word(rest).ok_or(FileRefusal::WrongLength)?;
+    check_sizes(models, len, rest)
 }

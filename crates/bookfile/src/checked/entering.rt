@@ -14,10 +14,8 @@ impl BookFile<'_> {
     {
         let count = Count::new(self.models)?;
         let mut book = Book::new(count);
-        let mut place = 0;
-        while let Some(derivation) = self.at(place) {
+        for derivation in self.derivations() {
             book.enter(derivation)?;
-            place += 1;
         }
         Ok(book)
     }

@@ -1,10 +1,10 @@
 //! What a checked book file shows.
 ghost use Rattle.std.specs.Prelude.{◌≡◌, length};
 ghost use Rattle.std.specs.List.{slice_get};
-ghost use Rattle.bookfile.specs.Checked.{count_shown, shown};
+ghost use Rattle.bookfile.specs.Checked.{count_shown, shown, left};
 
 use crate::checked::BookFile;
-use crate::words::number;
+use crate::checked::derivations::Derivations;
 use book::derivation::Derivation;
 
 impl BookFile<'_> {
@@ -22,18 +22,23 @@ impl BookFile<'_> {
         self.firsts.len().min(self.seconds.len()) / 2
     }
 
+    /// The derivations in turn.
+    pub fn derivations(&self) -> Derivations<'_>
+        ensures { left result ≡ shown self.now }
+    {
+        Derivations {
+            firsts: self.firsts,
+            seconds: self.seconds,
+        }
+    }
+
     /// The derivation at a place from 0, or none behind the last.
     pub fn at(&self, place: usize) -> Option<Derivation>
         ensures { result ≡ slice_get (shown self.now) place }
     {
-        let firsts = self.firsts;
-        let seconds = self.seconds;
-        if place >= firsts.len() / 2 || place >= seconds.len() / 2 {
-            return None;
-        }
-        let low = 2 * place;
-        let from = number(firsts[low], firsts[low + 1]);
-        let to = number(seconds[low], seconds[low + 1]);
-        Some(Derivation { from, to })
+        let low = place.checked_mul(2)?;
+        let firsts = self.firsts.get(low..)?;
+        let seconds = self.seconds.get(low..)?;
+        Derivations { firsts, seconds }.next()
     }
 }

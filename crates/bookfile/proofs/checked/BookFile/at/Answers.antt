@@ -1,20 +1,34 @@
-use Rattle.std.proofs.Common.{◌≤◌, length, sym, arith}
+use Rattle.std.proofs.Common.{◌≡◌, ◌*◌, ◌≤◌, drop, length, sym, ap, ◌∙◌, arith}
+use Rattle.std.proofs.lemmas.List.{take_rest}
 use Rattle.std.proofs.lemmas.Option.{slice_get_past}
+use Rattle.bookfile.specs.Checked.{shown, left}
 use Rattle.bookfile.specs.Files.{derivations}
 use Rattle.bookfile.proofs.Arrays.{length_derivations}
-use Rattle.bookfile.proofs.Places.{place_shows}
+use Rattle.bookfile.proofs.Walking.{walk_drop, next_at}
 use Rattle.bookfile.proofs.checked.BookFile.at.Goals as goal
-use Rattle.bookfile.proofs.checked.BookFile.at.Goals.{then-place-firsts-via-then-place-firsts, then-place-firsts-via-else-place-firsts+then-place-seconds}
 
-pub returns-then-place-firsts : goal.returns-then-place-firsts
-returns-then-place-firsts c =
-    let xs = c.args.self.now.firsts.now in
-    let ys = c.args.self.now.seconds.now in
-    let l = length_derivations xs ys in
-    let past : length (derivations xs ys) ≤ c.args.place =
-    elim c.then-place-firsts.branch [ then-place-firsts-via-then-place-firsts w ↦ omega (arith, w.if-place-firsts.true) | then-place-firsts-via-else-place-firsts+then-place-seconds w ↦ omega (arith, w.if-place-seconds.true) ] in
-    sym (slice_get_past (derivations xs ys) c.args.place past)
+pub returns-in_err-low : goal.returns-in_err-low
+returns-in_err-low c =
+    let l = length_derivations c.args.self.now.firsts.now c.args.self.now.seconds.now in
+    rw c.from_residual.ensures (sym (slice_get_past (shown c.args.self.now) c.args.place (omega (arith, c.in_err-low.ensures))))
+
+pub returns-in_err-firsts : goal.returns-in_err-firsts
+returns-in_err-firsts c =
+    let l = length_derivations c.args.self.now.firsts.now c.args.self.now.seconds.now in
+    let past : length (shown c.args.self.now) ≤ c.args.place = grind arith in
+    rw c.from_residual-in_err-firsts.ensures (sym (slice_get_past (shown c.args.self.now) c.args.place past))
+
+pub returns-in_err-seconds : goal.returns-in_err-seconds
+returns-in_err-seconds c =
+    let l = length_derivations c.args.self.now.firsts.now c.args.self.now.seconds.now in
+    let past : length (shown c.args.self.now) ≤ c.args.place = grind arith in
+    rw c.from_residual-in_err-seconds.ensures (sym (slice_get_past (shown c.args.self.now) c.args.place past))
 
 pub returns : goal.returns
 returns c =
-    sym (place_shows c.args.self.now.firsts.now c.args.self.now.seconds.now c.args.place _ (omega arith) (omega arith) c.number-from.ensures c.number-to.ensures)
+    let xs = c.args.self.now.firsts.now in
+    let ys = c.args.self.now.seconds.now in
+    let u : c.in_ok-firsts.firsts.now ≡ drop (c.args.place * 2) xs = c.in_ok-firsts.ensures.lookup.0.2 ∙ take_rest xs c.in_ok-low.low ∙ ap (λ k. drop k xs) c.in_ok-low.ensures.1 in
+    let v : c.in_ok-seconds.seconds.now ≡ drop (c.args.place * 2) ys = c.in_ok-seconds.ensures.lookup.0.2 ∙ take_rest ys c.in_ok-low.low ∙ ap (λ k. drop k ys) c.in_ok-low.ensures.1 in
+    let e = ap (λ us. derivations us c.in_ok-seconds.seconds.now) u ∙ ap (derivations (drop (c.args.place * 2) xs)) v ∙ walk_drop c.args.place xs ys in
+    next_at (shown c.args.self.now) _ (left c.next.new.self) c.args.place c.next.result e c.next.ensures.steps
