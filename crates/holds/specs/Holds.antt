@@ -1,5 +1,5 @@
 -- Lists of holds, oldest first.
-use Rattle.std.specs.Prelude.{◌≡◌, ℕ, ◌<◌, Bool, true, false, cond, not, ◌&&◌, ◌||◌, List, [], ◌∷◌, length, take, Some, None, Option, ◌==◌, slice_index_or}
+use Rattle.std.specs.Prelude.{ℕ, Bool, true, false, cond, not, ◌&&◌, ◌||◌, List, [], ◌∷◌, Some, None, Option, ◌==◌}
 use Rattle.holds.specs.declared.sheet.Hold.{Hold}
 
 -- whether a model is on hold
@@ -21,8 +21,3 @@ apart (h ∷ hs) = not (held hs h.model) && apart hs
 abbrev pub released : List Hold → ℕ → List Hold
 released [] m = []
 released (h ∷ hs) m = cond (h.model == m) hs (h ∷ released hs m)
-
--- a place is that of the hold on the model, and none says that it is not on hold
-abbrev pub Finds : List Hold → ℕ → Option ℕ → Type 0
-Finds hs m (Some i) = (i < length hs) × (held (take i hs) m ≡ false) × ((h : Hold) → (slice_index_or hs i h).model ≡ m)
-Finds hs m None = held hs m ≡ false

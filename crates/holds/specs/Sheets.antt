@@ -1,5 +1,5 @@
 -- A hold sheet by the holds that stand on it, and what placing and releasing one comes to.
-use Rattle.std.specs.Prelude.{◌≡◌, ℕ, cond, List, [], ◌∷◌, ◌++◌, length, take, Some, None, Ok, Err, Option, Result, ◌==◌, nat_lt}
+use Rattle.std.specs.Prelude.{◌≡◌, ℕ, cond, List, [], ◌∷◌, ◌++◌, length, Some, None, Ok, Err, Option, Result, ◌==◌, nat_lt}
 use Rattle.holds.specs.declared.fault.HoldFault.{HoldFault}
 use Rattle.holds.specs.declared.fault.HoldFault.TheVariants.{OnHold, SheetFull, NotOnHold, AnothersHold}
 use Rattle.holds.specs.declared.sheet.Hold.{Hold}
@@ -8,7 +8,7 @@ use Rattle.holds.specs.Holds.{held, holder_of, released}
 
 -- the holds that stand, oldest first
 abbrev pub standing : HoldSheet → List Hold
-standing s = take s.len s.places
+standing s = s.holds.items
 
 -- what placing a hold is refused with, if with anything: the model is on hold, then 64 holds stand
 abbrev pub place_fault : List Hold → ℕ → Option HoldFault

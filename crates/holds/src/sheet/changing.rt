@@ -4,6 +4,7 @@ ghost use Rattle.holds.specs.Sheets.{standing, Places, Releases};
 
 use crate::fault::HoldFault;
 use crate::sheet::{Hold, HoldSheet};
+use arrayvec::ArrayVec;
 
 impl HoldSheet {
     /// A sheet with no holds.
@@ -11,11 +12,7 @@ impl HoldSheet {
         ensures { standing result ≡ [] }
     {
         HoldSheet {
-            places: [Hold {
-                model: 0,
-                holder: 0,
-            }; 64],
-            len: 0,
+            holds: ArrayVec::new(),
         }
     }
 
@@ -23,35 +20,27 @@ impl HoldSheet {
     pub fn place(&mut self, model: u16, holder: u16) -> Result<(), HoldFault>
         ensures { Places self.old model holder result self.new }
     {
-        match self.place_of(model) {
-            Some(_) => Err(HoldFault::OnHold),
-            None => {
-                let len = self.len;
-                if len == 64 {
-                    return Err(HoldFault::SheetFull);
-                }
-                self.places[len] = Hold { model, holder };
-                self.len = len + 1;
-                Ok(())
-            }
+        if self.place_of(model).is_some() {
+            return Err(HoldFault::OnHold);
         }
+        if self.holds.is_full() {
+            return Err(HoldFault::SheetFull);
+        }
+        self.holds.push(Hold { model, holder });
+        Ok(())
     }
 
     /// Releases the hold on a model, by its holder.
     pub fn release(&mut self, model: u16, holder: u16) -> Result<(), HoldFault>
         ensures { Releases self.old model holder result self.new }
     {
-        match self.place_of(model) {
-            None => Err(HoldFault::NotOnHold),
-            Some(at) => {
-                let len = self.len;
-                if self.places[at].holder != holder {
-                    return Err(HoldFault::AnothersHold);
-                }
-                self.places[at..len].rotate_left(1);
-                self.len = len - 1;
-                Ok(())
-            }
+        let Some(at) = self.place_of(model) else {
+            return Err(HoldFault::NotOnHold);
+        };
+        if self.holds()[at].holder != holder {
+            return Err(HoldFault::AnothersHold);
         }
+        self.holds.remove(at);
+        Ok(())
     }
 }

@@ -1,6 +1,6 @@
 //! What a hold sheet shows.
-ghost use Rattle.std.specs.Prelude.{◌≡◌, length};
-ghost use Rattle.holds.specs.Holds.{holder_of, Finds};
+ghost use Rattle.std.specs.Prelude.{◌≡◌, ◌==◌, length, position};
+ghost use Rattle.holds.specs.Holds.{holder_of};
 ghost use Rattle.holds.specs.Sheets.{standing};
 
 use crate::sheet::{Hold, HoldSheet};
@@ -10,35 +10,28 @@ impl HoldSheet {
     pub fn holds(&self) -> &[Hold]
         ensures { result.now ≡ standing self.now }
     {
-        &self.places[0..self.len]
+        self.holds.as_slice()
     }
 
     /// How many holds stand.
     pub fn len(&self) -> usize
         ensures { result ≡ length (standing self.now) }
     {
-        self.holds().len()
+        self.holds.len()
     }
 
     // The place of the hold on a model.
     pub(super) fn place_of(&self, model: u16) -> Option<usize>
-        ensures { Finds (standing self.now) model result }
+        ensures { result ≡ position (λ h. h.model == model) (standing self.now) }
     {
-        for (at, hold) in self.holds().iter().enumerate() {
-            if hold.model == model {
-                return Some(at);
-            }
-        }
-        None
+        self.holds().iter().position(|hold| hold.model == model)
     }
 
     /// The holder of a model, if it is on hold.
     pub fn holder(&self, model: u16) -> Option<u16>
         ensures { result ≡ holder_of (standing self.now) model }
     {
-        match self.place_of(model) {
-            Some(at) => Some(self.holds()[at].holder),
-            None => None,
-        }
+        let at = self.place_of(model)?;
+        Some(self.holds()[at].holder)
     }
 }

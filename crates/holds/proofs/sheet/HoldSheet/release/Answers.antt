@@ -1,32 +1,30 @@
-use Rattle.std.proofs.Common.{ℕ, Option, refl, ap, ◌∙◌, arith}
+use Rattle.std.proofs.Common.{sym, refl, ap, ◌∙◌}
+use Rattle.holds.specs.declared.sheet.Hold.{Hold}
 use Rattle.holds.specs.Holds.{apart}
-use Rattle.holds.specs.Sheets.{standing, release_fault}
-use Rattle.holds.proofs.Holds.{missing_holder, apart_released}
-use Rattle.holds.proofs.Sheets.{len_is, gone, gone_room, others_fault, own_fault}
+use Rattle.holds.specs.Sheets.{standing}
+use Rattle.holds.proofs.Holds.{missing, found, missing_fault, others_fault, own_fault, apart_released}
 use Rattle.holds.proofs.sheet.HoldSheet.release.Goals as goal
 
-pub offset_bounds-self-at : goal.offset_bounds-self-at
-offset_bounds-self-at c = let s = c.args.self.now in let a = c.in-Some.ensures.0 in let n = len_is s in let f = s.few in omega arith
+pub returns-in_default : goal.returns-in_default
+returns-in_default c =
+    let hs = standing c.args.self.now in
+    (missing_fault c.args.model hs c.args.holder (missing c.args.model hs (sym c.in_default.is ∙ c.place_of.ensures)), refl)
 
-pub returns-then-self-at : goal.returns-then-self-at
-returns-then-self-at c = (others_fault c.args.self.now c.args.model c.args.holder c.in-Some.at _ c.in-Some.ensures c.if-self-at.true, refl)
+pub returns-then-holds-at : goal.returns-then-holds-at
+returns-then-holds-at c =
+    let hs = standing c.args.self.now in
+    let d : Hold = record { model = 0; holder = 0 } in
+    (others_fault c.args.model hs c.args.holder c.in-Some.at d (found c.args.model hs c.in-Some.at d c.in-Some.ensures) (rw c.holds.ensures at c.if-holds-at.true), refl)
 
 pub invariant_of-self : goal.invariant_of-self
 invariant_of-self c =
-    let s = c.args.self.now in
-    let f = s.few in
-    let found = c.in-Some.ensures in
-    let part = c.rotate_left.ensures.after in
-    record {
-      room = gone_room s c.args.model c.in-Some.at c.rotate_left.new.self found part;
-      few = omega arith;
-      apart = ap apart (gone s c.args.model c.in-Some.at c.rotate_left.new.self found part) ∙ apart_released (standing s) c.args.model s.apart;
-    }
+    let hs = standing c.args.self.now in
+    let d : Hold = record { model = 0; holder = 0 } in
+    record { apart = ap apart (c.remove.ensures.items ∙ sym (found c.args.model hs c.in-Some.at d c.in-Some.ensures).rest) ∙ apart_released hs c.args.model c.args.self.now.apart }
 
-pub returns-in-None : goal.returns-in-None
-returns-in-None c = (ap (λ (o : Option ℕ). release_fault o c.args.holder) (missing_holder c.args.model (standing c.args.self.now) c.in-None.ensures), refl)
-
-pub returns-else-self-at : goal.returns-else-self-at
-returns-else-self-at c =
-    let s = c.args.self.now in
-    (own_fault s c.args.model c.args.holder c.in-Some.at _ c.in-Some.ensures c.if-self-at.false, gone s c.args.model c.in-Some.at c.rotate_left.new.self c.in-Some.ensures c.rotate_left.ensures.after)
+pub returns : goal.returns
+returns c =
+    let hs = standing c.args.self.now in
+    let d : Hold = record { model = 0; holder = 0 } in
+    let t = found c.args.model hs c.in-Some.at d c.in-Some.ensures in
+    (own_fault c.args.model hs c.args.holder c.in-Some.at d t (rw c.holds.ensures at c.if-holds-at.false), c.remove.ensures.items ∙ sym t.rest)
