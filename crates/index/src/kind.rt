@@ -18,8 +18,7 @@ pub trait Index {
     /// The largest surplus that the kind takes, at most 2,048.
     const CAPACITY: u16;
 
-    /// The same number, for the clauses.
-    ghost capacity: { ℕ };
+    ghost CAPACITY: { ℕ };
 
     /// What an index means: nothing, or a count and a relation on the models below it.
     ghost meaning: { Self → Meaning };
@@ -29,10 +28,6 @@ pub trait Index {
 
     /// What the kind's own calls show after a build, by the index before and after it.
     ghost shows: { Self → ℕ → (ℕ → ℕ → Bool) → Result (Unit {0}) IndexFault → Self → Type 0 } = { λ _ _ _ _ _. Unit {0} };
-
-    /// The capacity.
-    fn limit() -> u16
-        ensures { result ≡ capacity };
 
     /// Builds the index from a book, in the work space, which may end with leftovers.
     fn build(&mut self, book: &Book, work: &mut [u16]) -> Result<(), IndexFault>
@@ -49,7 +44,7 @@ pub trait Index {
         ensures meaning { meaning self.new ≡ nothing }
         ensures refuses { refuses self.new ≡ refuses self.old };
 
-    ghost small: { capacity ≤ 2048 };
+    ghost small: { CAPACITY ≤ 2048 };
 
-    ghost rules: { (s : Self) (n : ℕ) (R : ℕ → ℕ → Bool) (k : ℕ) → refuses s n R k ≡ rule capacity n R k };
+    ghost rules: { (s : Self) (n : ℕ) (R : ℕ → ℕ → Bool) (k : ℕ) → refuses s n R k ≡ rule CAPACITY n R k };
 }
