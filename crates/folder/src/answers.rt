@@ -14,7 +14,7 @@ pub fn answers<I: Index + Drop>(
     book: &[u8],
     orders: &[u8],
 ) -> Result<Vec<u8>, AllocError>
-    ensures { IfOk result (λ v. v.items ≡ printed I.Index.capacity 32768 book.now orders.now) }
+    ensures { IfOk result (λ v. v.items ≡ printed I.Index.CAPACITY 32768 book.now orders.now) }
 {
     let room = count_lines(orders).saturating_mul(16).max(16);
     let mut work = vec![in heap; 0u16; WORK]?;

@@ -110,8 +110,8 @@ pub fn answer_day<I: Index + Drop>(
     work: &mut [u16],
     out: &mut [u8],
 ) -> Result<usize, WriteRefusal>
-    ensures prints { Prints I.Index.capacity (length work.old) book.now orders.now out.old result out.new }
-    ensures law { Lawfully I.Index.capacity (length work.old) book.now orders.now }
+    ensures prints { Prints I.Index.CAPACITY (length work.old) book.now orders.now out.old result out.new }
+    ensures law { Lawfully I.Index.CAPACITY (length work.old) book.now orders.now }
 {
     let lines = count_lines(orders);
     if out.len() < 16 || out.len() / 16 < lines {

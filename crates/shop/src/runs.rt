@@ -19,7 +19,7 @@ pub fn run<I: Index + Drop>(
     work: &mut [u16],
     answers: &mut [Answer],
 ) -> usize
-    ensures law { Ran I.Index.capacity (models count) (length work.old) calls.now answers.old result answers.new }
+    ensures law { Ran I.Index.CAPACITY (models count) (length work.old) calls.now answers.old result answers.new }
     ensures words { ByTheLastCall }
 {
     let mut shop = Shop::open(count, index);
@@ -43,8 +43,8 @@ pub fn compare<I: Index + Drop, J: Index + Drop>(
     answers: &mut [Answer],
     others: &mut [Answer],
 ) -> usize
-    ensures first { Ran I.Index.capacity (models count) (length work.old) (take (min (length answers.old) (length others.old)) calls.now) answers.old result answers.new }
-    ensures second { Ran J.Index.capacity (models count) (length work.old) (take (min (length answers.old) (length others.old)) calls.now) others.old result others.new }
+    ensures first { Ran I.Index.CAPACITY (models count) (length work.old) (take (min (length answers.old) (length others.old)) calls.now) answers.old result answers.new }
+    ensures second { Ran J.Index.CAPACITY (models count) (length work.old) (take (min (length answers.old) (length others.old)) calls.now) others.old result others.new }
     ensures agree { Agree result answers.new others.new }
 {
     let places = answers.len().min(others.len()).min(calls.len());

@@ -21,14 +21,14 @@ returns-then-out-lt16 g c =
     let many = c.count_lines-lines.ensures in
     record {
       prints = (elim c.then-out-lt16.branch [ then-out-lt16-via-then-out-lt16 w ↦ omega arith | then-out-lt16-via-else-out-lt16+then-out-lines w ↦ omega arith ], refl);
-      law = lawfully g.I.Index.capacity (length c.args.work.now) c.args.book.now c.args.orders.now;
+      law = lawfully g.I.Index.CAPACITY (length c.args.work.now) c.args.book.now c.args.orders.now;
     }
 
 pub returns-in-Err : goal.returns-in-Err
 returns-in-Err g c =
     let lines = length (lines_of c.args.orders.now) in
     let many = c.count_lines-lines.ensures in
-    let capacity = g.I.Index.capacity in
+    let capacity = g.I.Index.CAPACITY in
     let work = length c.args.work.now in
     let e = printed_fault capacity work c.args.book.now c.args.orders.now c.in-Err.fault c.in-Err.ensures in
     let told = c.write_fault.ensures in
@@ -42,7 +42,7 @@ pub returns-in-Ok : goal.returns-in-Ok
 returns-in-Ok g c =
     let lines = length (lines_of c.args.orders.now) in
     let many = c.count_lines-lines.ensures in
-    let capacity = g.I.Index.capacity in
+    let capacity = g.I.Index.CAPACITY in
     let work = length c.args.work.now in
     let book = c.args.book.now in
     let opened = c.in-Ok.ensures in

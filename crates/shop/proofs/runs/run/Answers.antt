@@ -19,9 +19,9 @@ pub loop-place-init : goal.loop-place-init
 loop-place-init g c =
     let s = c.open-shop.result in
     let f = c.open-shop.ensures.follows in
-    running_none g.I.Index.meaning g.I.Index.refuses (models_in s) (rule g.I.Index.capacity) (length c.args.work.now) c.args.calls.now c.args.answers.now s
-    (subst (λ (x : ℕ). Follows g.I.Index.meaning g.I.Index.refuses x (rule g.I.Index.capacity) [] s) (sym f.count)
-    (subst (λ (o : Refuses). Follows g.I.Index.meaning g.I.Index.refuses (models c.args.count) o [] s) (ruled_by g.I.Index.refuses g.I.Index.capacity c.args.index g.met.I.Index.rules) f))
+    running_none g.I.Index.meaning g.I.Index.refuses (models_in s) (rule g.I.Index.CAPACITY) (length c.args.work.now) c.args.calls.now c.args.answers.now s
+    (subst (λ (x : ℕ). Follows g.I.Index.meaning g.I.Index.refuses x (rule g.I.Index.CAPACITY) [] s) (sym f.count)
+    (subst (λ (o : Refuses). Follows g.I.Index.meaning g.I.Index.refuses (models c.args.count) o [] s) (ruled_by g.I.Index.refuses g.I.Index.CAPACITY c.args.index g.met.I.Index.rules) f))
 
 pub returns-in-None : goal.returns-in-None
 returns-in-None g c =
@@ -33,9 +33,9 @@ returns-in-None g c =
     let right = min-le_right (length cs) (length was) in
     let asks = c.in-None.ensures.0 in
     record {
-      law = subst (λ (x : ℕ). Ran g.I.Index.capacity x (length c.args.work.now) cs was l.place l.answers) f.count
-          (ran_short g.I.Index.meaning g.I.Index.refuses (models_in c.open-shop.result) (rule g.I.Index.capacity) (length c.args.work.now) cs was l.shop l.answers l.place l.invariant
-          (omega arith) g.I.Index.capacity refl (get_or cs l.place none) none refl (omega arith) (omega arith) (omega arith));
+      law = subst (λ (x : ℕ). Ran g.I.Index.CAPACITY x (length c.args.work.now) cs was l.place l.answers) f.count
+          (ran_short g.I.Index.meaning g.I.Index.refuses (models_in c.open-shop.result) (rule g.I.Index.CAPACITY) (length c.args.work.now) cs was l.shop l.answers l.place l.invariant
+          (omega arith) g.I.Index.CAPACITY refl (get_or cs l.place none) none refl (omega arith) (omega arith) (omega arith));
       words = by_the_last_call;
     }
 
@@ -48,7 +48,7 @@ loop-place-preserved g c =
     let right = min-le_right (length cs) (length was) in
     let served = c.in-Some.ensures in
     let asks = served.0 in
-    running_more g.I.Index.meaning g.I.Index.refuses (models_in c.open-shop.result) (rule g.I.Index.capacity) (length c.args.work.now) cs was l.shop l.answers l.place l.invariant
+    running_more g.I.Index.meaning g.I.Index.refuses (models_in c.open-shop.result) (rule g.I.Index.CAPACITY) (length c.args.work.now) cs was l.shop l.answers l.place l.invariant
     (omega arith) (get_or cs l.place none) c.in-Some.answer c.serve.new.self none refl (omega arith) (omega arith) (omega arith) served.1
 
 pub returns : goal.returns
@@ -60,9 +60,9 @@ returns g c =
     let left = min-le_left (length cs) (length was) in
     let end : l.place ≡ c.min-most.result = omega arith in
     record {
-      law = subst (λ (k : ℕ). Ran g.I.Index.capacity (models c.args.count) (length c.args.work.now) cs was k l.answers) end
-          (subst (λ (x : ℕ). Ran g.I.Index.capacity x (length c.args.work.now) cs was l.place l.answers) f.count
-          (ran_all g.I.Index.meaning g.I.Index.refuses (models_in c.open-shop.result) (rule g.I.Index.capacity) (length c.args.work.now) cs was l.shop l.answers l.place l.invariant
-          (omega arith) g.I.Index.capacity refl (end ∙ c.min-most.ensures)));
+      law = subst (λ (k : ℕ). Ran g.I.Index.CAPACITY (models c.args.count) (length c.args.work.now) cs was k l.answers) end
+          (subst (λ (x : ℕ). Ran g.I.Index.CAPACITY x (length c.args.work.now) cs was l.place l.answers) f.count
+          (ran_all g.I.Index.meaning g.I.Index.refuses (models_in c.open-shop.result) (rule g.I.Index.CAPACITY) (length c.args.work.now) cs was l.shop l.answers l.place l.invariant
+          (omega arith) g.I.Index.CAPACITY refl (end ∙ c.min-most.ensures)));
       words = by_the_last_call;
     }
