@@ -1,17 +1,16 @@
 -- Lawful histories: one more call, and that their answers are decided.
-use Rattle.std.proofs.Common.{◌≡◌, ℕ, Bool, true, false, cond, ltb, List, [], ◌∷◌, ◌++◌, map, Some, None, Option, sym, refl, ap, ◌∙◌, subst, inl, inr, arith}
+use Rattle.std.proofs.Common.{◌≡◌, ℕ, Bool, true, false, cond, ltb, List, [], ◌∷◌, ◌++◌, map, Some, None, Option, sym, refl, ap, ◌∙◌, subst, inl, inr}
 use Rattle.std.specs.Option.{option_map}
 use Rattle.lineage.specs.Lists.{◌∈◌}
 use Rattle.lineage.specs.Book.{surplus}
 use Rattle.index.specs.declared.fault.IndexFault.TheVariants.{WorkTooShort, TooMuchSurplus}
 use Rattle.index.specs.Builds.{rule}
-use Rattle.history.specs.declared.answer.Answer.{Answer}
 use Rattle.history.specs.declared.call.Call.{Call}
 use Rattle.history.specs.declared.call.Call.TheVariants.{Enter, Strike, Index, Hold, Release, Order}
 use Rattle.history.specs.declared.fault.ShopFault.{ShopFault}
 use Rattle.history.specs.declared.fault.ShopFault.TheVariants.{Index as OfIndex}
 use Rattle.history.specs.Faults.{number}
-use Rattle.history.specs.Answers.{refused, told}
+use Rattle.history.specs.Answers.{Answer, refused, told}
 use Rattle.history.specs.Events.{Event, History, happened}
 use Rattle.history.specs.Standing.{stands}
 use Rattle.history.specs.Table.{Refuses, refusal}
@@ -21,8 +20,8 @@ use Rattle.history.proofs.Orders.{decided}
 
 module _ (n : ℕ) (refuses : Refuses) where
   no_call : (after before : History) (call : Call) (a : Answer) → ◌≡◌ {A = History} [] (after ++ (call, a) ∷ before) → ⊥
-  no_call [] before call a e = let z : ◌≡◌ {A = ℕ} 0 1 = cc in omega arith
-  no_call (x ∷ after) before call a e = let z : ◌≡◌ {A = ℕ} 0 1 = cc in omega arith
+  no_call [] before call a e = cc
+  no_call (x ∷ after) before call a e = cc
 
   pub lawful_none : LawfulHistory n refuses []
   lawful_none = record { each = λ after before call a e. absurd (no_call after before call a e) }
@@ -55,8 +54,8 @@ module _ (n : ℕ) (r s : Refuses) (Good : Answer → Type 0)
   same_histories : (g h : History) → calls g ≡ calls h → LawfulHistory n r g → LawfulHistory n s h
       → ((a : Answer) → a ∈ answers g → Good a) → ((a : Answer) → a ∈ answers h → Good a) → g ≡ h
   same_histories [] [] e k l x y = refl
-  same_histories [] (made ∷ h) e k l x y = absurd (let z : ◌≡◌ {A = ℕ} 0 1 = cc in omega arith)
-  same_histories (made ∷ g) [] e k l x y = absurd (let z : ◌≡◌ {A = ℕ} 0 1 = cc in omega arith)
+  same_histories [] (made ∷ h) e k l x y = cc
+  same_histories (made ∷ g) [] e k l x y = cc
   same_histories (made ∷ g) (again ∷ h) e k l x y =
       let call : made.0 ≡ again.0 = cc in
       let rest : calls g ≡ calls h = cc in

@@ -18,7 +18,7 @@ use Rattle.history.specs.Standing.{is, stands, held, holder}
 use Rattle.history.specs.Table.{Refuses, check, refusal, how_many_stand, how_many_held}
 use Rattle.history.specs.Laws.{LawfulHistory}
 use Rattle.history.specs.Lists.{book_of, sheet_of}
-use Rattle.history.proofs.Last.{none_some, held_holder}
+use Rattle.history.proofs.Last.{held_holder}
 use Rattle.history.proofs.Steps.{stands_none, stands_entered, stands_struck, stands_indexed, stands_placed, stands_released, holder_none, holder_entered, holder_struck, holder_indexed, holder_placed, holder_released}
 use Rattle.history.proofs.Books.{book_rises, book_stands}
 use Rattle.history.proofs.Sheets.{held_in_holder, holder_of_placed, holder_of_released}
@@ -128,7 +128,7 @@ module _ (n : ℕ) (es : List Event) (k : Kept n es) where
 
 -- a check that did not apply, and what came after it
 pub check_none : (b : Bool) (f : ShopFault) (next : Option ShopFault) → None ≡ check b f next → (b ≡ false) × (None ≡ next)
-check_none true f next e = absurd (none_some e)
+check_none true f next e = cc
 check_none false f next e = (refl, e)
 
 module _ (n : ℕ) (refuses : Refuses) (es : List Event) (k : Kept n es) where

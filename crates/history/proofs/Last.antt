@@ -1,14 +1,11 @@
 -- The last event that passes a test, searched for and in words; so what stands, what is held and what is current, by the last event of it.
-use Rattle.std.proofs.Common.{◌≡◌, ℕ, Bool, true, false, eqb, List, [], ◌∷◌, ◌++◌, is_some as option_is_some, Some, None, Option, sym, refl, ap, ◌∙◌, subst, inl, inr, arith}
-use Rattle.std.proofs.lemmas.Bool.{cases_Bool, cond-true, cond-false, and_parts, and_from, eqb-true, eq-eqb, false≢true}
+use Rattle.std.proofs.Common.{◌≡◌, ℕ, Bool, true, false, eqb, List, [], ◌∷◌, ◌++◌, is_some as option_is_some, Some, None, Option, sym, refl, ap, ◌∙◌, subst, inl, inr}
+use Rattle.std.proofs.lemmas.Bool.{cases_Bool, cond-true, cond-false, and_parts, and_from, eqb-true, eq-eqb}
 use Rattle.lineage.specs.Lists.{◌∈◌}
 use Rattle.book.specs.declared.derivation.Derivation.{Derivation}
 use Rattle.history.specs.Events.{Event, entered, struck, indexed, placed, released}
 use Rattle.history.specs.Standing.{is, of_derivation, of_model, of_index, last, is_entry, is_indexing, held_by, stands, held, holder, current, Last}
 use Rattle.history.specs.Theorems.{ByTheLastEvent}
-
-pub none_some : {X : Type 0} {x : X} → ◌≡◌ {A = Option X} None (Some x) → ⊥
-none_some p = let z : ◌≡◌ {A = ℕ} 0 1 = cc in omega arith
 
 pub same_derivation : (d : Derivation) (u v : ℕ) → is d u v ≡ true → d ≡ record { from = u; to = v }
 same_derivation d u v e =
@@ -22,7 +19,7 @@ itself u v = and_from (eqb u u) (eqb v v) (eq-eqb u u refl) (eq-eqb v v refl)
 
 module _ (speaks : Event → Bool) where
   pub last_of : (es : List Event) (e : Event) → last speaks es ≡ Some e → Last speaks es e
-  last_of [] e p = absurd (none_some p)
+  last_of [] e p = cc
   last_of (x ∷ es) e p =
       elim (cases_Bool (speaks x)) [
         | inl t ↦ (
@@ -50,31 +47,31 @@ module _ (speaks : Event → Bool) where
 
 -- what the last event is, by what it says
 entry_is : (o : Option Event) → is_entry o ≡ true → (d : Derivation) × (o ≡ Some (entered d))
-entry_is None p = absurd (false≢true p)
+entry_is None p = cc
 entry_is (Some (entered d)) p = (d, refl)
-entry_is (Some (struck d)) p = absurd (false≢true p)
-entry_is (Some indexed) p = absurd (false≢true p)
-entry_is (Some (placed x q)) p = absurd (false≢true p)
-entry_is (Some (released x)) p = absurd (false≢true p)
+entry_is (Some (struck d)) p = cc
+entry_is (Some indexed) p = cc
+entry_is (Some (placed x q)) p = cc
+entry_is (Some (released x)) p = cc
 
 indexing_is : (o : Option Event) → is_indexing o ≡ true → o ≡ Some indexed
-indexing_is None p = absurd (false≢true p)
-indexing_is (Some (entered d)) p = absurd (false≢true p)
-indexing_is (Some (struck d)) p = absurd (false≢true p)
+indexing_is None p = cc
+indexing_is (Some (entered d)) p = cc
+indexing_is (Some (struck d)) p = cc
 indexing_is (Some indexed) p = refl
-indexing_is (Some (placed x q)) p = absurd (false≢true p)
-indexing_is (Some (released x)) p = absurd (false≢true p)
+indexing_is (Some (placed x q)) p = cc
+indexing_is (Some (released x)) p = cc
 
 hold_is : (o : Option Event) (p : ℕ) → held_by o ≡ Some p → (x : ℕ) × (o ≡ Some (placed x p))
-hold_is None p e = absurd (none_some e)
-hold_is (Some (entered d)) p e = absurd (none_some e)
-hold_is (Some (struck d)) p e = absurd (none_some e)
-hold_is (Some indexed) p e = absurd (none_some e)
+hold_is None p e = cc
+hold_is (Some (entered d)) p e = cc
+hold_is (Some (struck d)) p e = cc
+hold_is (Some indexed) p e = cc
 hold_is (Some (placed x q)) p e = (x, let f : q ≡ p = cc in ap (λ (z : ℕ). Some (placed x z)) f)
-hold_is (Some (released x)) p e = absurd (none_some e)
+hold_is (Some (released x)) p e = cc
 
 pub is_some : {X : Type 0} (o : Option X) → option_is_some o ≡ true → (x : X) × (o ≡ Some x)
-is_some None p = absurd (false≢true p)
+is_some None p = cc
 is_some (Some x) p = (x, refl)
 
 module _ (es : List Event) where

@@ -1,18 +1,17 @@
 -- The last event that passes a test is of the last accepted call that counts as such an event.
-use Rattle.std.proofs.Common.{◌≡◌, ℕ, Bool, true, false, eqb, ◌⊎◌, List, [], ◌∷◌, ◌++◌, reverse, is_some as option_is_some, Some, None, Option, sym, refl, ap, ◌∙◌, subst, inl, inr, arith}
+use Rattle.std.proofs.Common.{◌≡◌, ℕ, Bool, true, false, eqb, ◌⊎◌, List, [], ◌∷◌, ◌++◌, reverse, is_some as option_is_some, Some, None, Option, sym, refl, ap, ◌∙◌, subst, inl, inr}
 use mathlib.Core.List.{reverse_aux}
 use Rattle.std.proofs.lemmas.Bool.{cases_Bool, cond-true, cond-false, eq-eqb}
 use Rattle.lineage.specs.Lists.{◌∈◌}
 use Rattle.book.specs.declared.derivation.Derivation.{Derivation}
-use Rattle.history.specs.declared.answer.Answer.{Answer}
 use Rattle.history.specs.declared.call.Call.{Call}
 use Rattle.history.specs.declared.call.Call.TheVariants.{Enter, Strike, Index, Hold, Release, Order}
 use Rattle.history.specs.declared.fault.ShopFault.{ShopFault}
-use Rattle.history.specs.Answers.{refused}
+use Rattle.history.specs.Answers.{Answer, refused}
 use Rattle.history.specs.Events.{Event, History, entered, struck, indexed, placed, released, counts_as, unless_refused, happened}
 use Rattle.history.specs.Standing.{is, of_derivation, of_model, of_index, last, stands, held, holder, current, LastCall}
 use Rattle.history.specs.Theorems.{ByTheLastCall}
-use Rattle.history.proofs.Last.{none_some, itself, is_some, held_holder, last_of, of_last, by_the_last_event}
+use Rattle.history.proofs.Last.{itself, is_some, held_holder, last_of, of_last, by_the_last_event}
 
 -- a list and its reverse have the same
 in_turned : {A : Type 0} (x : A) (xs ys : List A) → (x ∈ xs) ⊎ (x ∈ ys) → x ∈ reverse_aux xs ys
@@ -31,7 +30,7 @@ reverse_in x xs i = elim (turned_in x xs [] i) [ inl j ↦ j | inr j ↦ absurd 
 
 module _ (speaks : Event → Bool) where
   last_in : (xs : List Event) (e : Event) → last speaks xs ≡ Some e → e ∈ xs
-  last_in [] e p = absurd (none_some p)
+  last_in [] e p = cc
   last_in (x ∷ xs) e p =
       elim (cases_Bool (speaks x)) [
         | inl t ↦ inl (let r = cond-true (speaks x) (Some x) (last speaks xs) t in cc)
@@ -43,7 +42,7 @@ module _ (speaks : Event → Bool) where
   last_none [] p f i = absurd i
   last_none (x ∷ xs) p f i =
       elim (cases_Bool (speaks x)) [
-        | inl t ↦ absurd (none_some (sym p ∙ cond-true (speaks x) (Some x) (last speaks xs) t))
+        | inl t ↦ let r = cond-true (speaks x) (Some x) (last speaks xs) t in cc
         | inr t ↦ elim i [
           | inl e ↦ subst (λ (y : Event). speaks y ≡ false) e t
           | inr j ↦ last_none xs (sym (cond-false (speaks x) (Some x) (last speaks xs) t) ∙ p) f j
@@ -52,7 +51,7 @@ module _ (speaks : Event → Bool) where
 
   -- in two lists joined
   last_left : (xs ys : List Event) (e : Event) → last speaks xs ≡ Some e → last speaks (xs ++ ys) ≡ Some e
-  last_left [] ys e p = absurd (none_some p)
+  last_left [] ys e p = cc
   last_left (x ∷ xs) ys e p =
       elim (cases_Bool (speaks x)) [
         | inl t ↦ cond-true (speaks x) (Some x) (last speaks (xs ++ ys)) t ∙ sym (cond-true (speaks x) (Some x) (last speaks xs) t) ∙ p
@@ -114,10 +113,10 @@ module _ (speaks : Event → Bool) where
   find_by : (h : History) (e : Event) (call : Call) (a : Answer) (o : Option ShopFault) → refused a ≡ o
       → last speaks (reverse (unless_refused o (counts_as call)) ++ happened h) ≡ Some e → (last speaks (happened h) ≡ Some e → Found h e) → Found ((call, a) ∷ h) e
   find_by h e call a None r p rest = find_in h e call a (last speaks (reverse (counts_as call))) r refl p rest
-  find_by h e call a (Some f) r p rest = found_later h e (call, a) (λ t. absurd (none_some (sym t ∙ r))) (rest p)
+  find_by h e call a (Some f) r p rest = found_later h e (call, a) (λ t. cc) (rest p)
 
   find : (h : History) (e : Event) → last speaks (happened h) ≡ Some e → Found h e
-  find [] e p = absurd (none_some p)
+  find [] e p = cc
   find (made ∷ h) e p = find_by h e made.0 made.1 (refused made.1) refl p (find h e)
 
   -- and back
@@ -146,26 +145,26 @@ apart_from x y i f = elim i [ inl e ↦ f e | inr j ↦ absurd j ]
 
 enters : (call : Call) (d : Derivation) → entered d ∈ counts_as call → call ≡ Enter d
 enters (Enter c) d i = apart_from (entered d) (entered c) i (λ e. let z : c ≡ d = cc in ap Enter z)
-enters (Strike c) d i = apart_from (entered d) (struck c) i (λ e. let z : ◌≡◌ {A = ℕ} 0 1 = cc in absurd (omega arith))
-enters (Index w) d i = apart_from (entered d) indexed i (λ e. let z : ◌≡◌ {A = ℕ} 0 1 = cc in absurd (omega arith))
-enters (Hold m p) d i = apart_from (entered d) (placed m p) i (λ e. let z : ◌≡◌ {A = ℕ} 0 1 = cc in absurd (omega arith))
-enters (Release m p) d i = apart_from (entered d) (released m) i (λ e. let z : ◌≡◌ {A = ℕ} 0 1 = cc in absurd (omega arith))
+enters (Strike c) d i = apart_from (entered d) (struck c) i (λ e. cc)
+enters (Index w) d i = apart_from (entered d) indexed i (λ e. cc)
+enters (Hold m p) d i = apart_from (entered d) (placed m p) i (λ e. cc)
+enters (Release m p) d i = apart_from (entered d) (released m) i (λ e. cc)
 enters (Order m) d i = absurd i
 
 holds : (call : Call) (x q : ℕ) → placed x q ∈ counts_as call → call ≡ Hold x q
-holds (Enter c) x q i = apart_from (placed x q) (entered c) i (λ e. let z : ◌≡◌ {A = ℕ} 0 1 = cc in absurd (omega arith))
-holds (Strike c) x q i = apart_from (placed x q) (struck c) i (λ e. let z : ◌≡◌ {A = ℕ} 0 1 = cc in absurd (omega arith))
-holds (Index w) x q i = apart_from (placed x q) indexed i (λ e. let z : ◌≡◌ {A = ℕ} 0 1 = cc in absurd (omega arith))
+holds (Enter c) x q i = apart_from (placed x q) (entered c) i (λ e. cc)
+holds (Strike c) x q i = apart_from (placed x q) (struck c) i (λ e. cc)
+holds (Index w) x q i = apart_from (placed x q) indexed i (λ e. cc)
 holds (Hold m p) x q i = apart_from (placed x q) (placed m p) i (λ e. let y : m ≡ x = cc in let z : p ≡ q = cc in λ j. Hold (y j) (z j))
-holds (Release m p) x q i = apart_from (placed x q) (released m) i (λ e. let z : ◌≡◌ {A = ℕ} 0 1 = cc in absurd (omega arith))
+holds (Release m p) x q i = apart_from (placed x q) (released m) i (λ e. cc)
 holds (Order m) x q i = absurd i
 
 indexes : (call : Call) → indexed ∈ counts_as call → (work : ℕ) × (call ≡ Index work)
-indexes (Enter c) i = apart_from indexed (entered c) i (λ e. let z : ◌≡◌ {A = ℕ} 0 1 = cc in absurd (omega arith))
-indexes (Strike c) i = apart_from indexed (struck c) i (λ e. let z : ◌≡◌ {A = ℕ} 0 1 = cc in absurd (omega arith))
+indexes (Enter c) i = apart_from indexed (entered c) i (λ e. cc)
+indexes (Strike c) i = apart_from indexed (struck c) i (λ e. cc)
 indexes (Index w) i = (w, refl)
-indexes (Hold m p) i = apart_from indexed (placed m p) i (λ e. let z : ◌≡◌ {A = ℕ} 0 1 = cc in absurd (omega arith))
-indexes (Release m p) i = apart_from indexed (released m) i (λ e. let z : ◌≡◌ {A = ℕ} 0 1 = cc in absurd (omega arith))
+indexes (Hold m p) i = apart_from indexed (placed m p) i (λ e. cc)
+indexes (Release m p) i = apart_from indexed (released m) i (λ e. cc)
 indexes (Order m) i = absurd i
 
 found_in : (speaks : Event → Bool) (h : History) (e : Event) (w : Found speaks h e) → e ∈ counts_as w.call

@@ -1,25 +1,26 @@
 -- The computed answer is lawful, so any calls make one lawful history; and what orders are answered.
-use Rattle.std.proofs.Common.{◌≡◌, ℕ, Bool, true, false, cond, not, ◌&&◌, ltb, List, [], ◌∷◌, ◌++◌, Some, None, Option, sym, refl, ap, ◌∙◌, subst, inl, inr, arith}
+use Rattle.std.proofs.Common.{◌≡◌, ℕ, Bool, true, false, cond, not, ◌&&◌, ltb, List, [], ◌∷◌, ◌++◌, Some, None, Ok, Option, sym, refl, ap, ◌∙◌, subst, inl, inr, arith}
 use Rattle.std.specs.Option.{option_map}
 use Rattle.std.proofs.lemmas.Bool.{cases_lt, cond-true, cond-false, lt-ltb, le-ltb, and_parts, and_from, true≢false, ltb-true, not-false}
 use Rattle.lineage.specs.Book.{leads}
 use Rattle.lineage.proofs.Numbers.{Least, least_is}
 use Rattle.lineage.proofs.Groups.{leads_sound, leads_whole}
 use Rattle.index.specs.Builds.{rule}
+use Rattle.book.specs.Refusals.{unless}
 use Rattle.book.specs.declared.refusal.Refusal.TheVariants.{NoSuchModel}
-use Rattle.history.specs.declared.answer.Answer.{Answer}
-use Rattle.history.specs.declared.answer.Answer.TheVariants.{Carve, Stop}
+use Rattle.history.specs.declared.answer.Outcome.{Outcome}
+use Rattle.history.specs.declared.answer.Outcome.TheVariants.{Carve, Stop}
 use Rattle.history.specs.declared.call.Call.{Call}
 use Rattle.history.specs.declared.call.Call.TheVariants.{Enter, Strike, Index, Hold, Release, Order}
 use Rattle.history.specs.declared.fault.ShopFault.{ShopFault}
 use Rattle.history.specs.declared.fault.ShopFault.TheVariants.{Book as OfBook, Stale}
 use Rattle.history.specs.Faults.{number}
-use Rattle.history.specs.Answers.{refused}
+use Rattle.history.specs.Answers.{Answer, refused}
 use Rattle.history.specs.Events.{Event, History, happened}
 use Rattle.history.specs.Standing.{stands, held, current}
 use Rattle.history.specs.Table.{Refuses, refusal}
 use Rattle.history.specs.Laws.{Bars, Free, Lowest, AnswersOrder, Granted, ordered, Lawful, LawfulHistory, Law}
-use Rattle.history.specs.Made.{lowest_held, grant, unless, answer_to, made}
+use Rattle.history.specs.Made.{lowest_held, grant, answer_to, made}
 use Rattle.history.specs.Theorems.{calls, OrdersAreAnswered, OneLawfulHistory, LawfulListsSay}
 use Rattle.history.proofs.Orders.{carve_answers, stop_answers}
 use Rattle.history.proofs.Histories.{lawful_none, lawful_more, decided_histories}
@@ -39,7 +40,7 @@ module _ (n : ℕ) (es : List Event) (k : Kept n es) where
   lowest_is : (m : ℕ) → Least n (λ h. held es h && leads n (stands es) h m) (lowest_held n es m)
   lowest_is m = least_is n (λ h. held es h && leads n (stands es) h m)
 
-  grant_order : (m : ℕ) → AnswersOrder es m (grant n es (Some m)) × (refused (grant n es (Some m)) ≡ None)
+  grant_order : (m : ℕ) → AnswersOrder es m (Ok (grant n es (Some m)))
   grant_order m =
       let r = lowest_held n es m in
       let l = lowest_is m in
@@ -50,21 +51,21 @@ module _ (n : ℕ) (es : List Event) (k : Kept n es) where
               bars = test_bars m r (l.hit low);
               lowest = λ h b. elim (cases_lt h r) [ inl o ↦ absurd (true≢false (sym (bars_test m h b) ∙ l.under h o)) | inr o ↦ o ];
             } in
-            (subst (λ (a : Answer). AnswersOrder es m a) (sym e) (stop_answers es m r s), ap refused e)
+            subst (λ (o : Outcome). AnswersOrder es m (Ok o)) (sym e) (stop_answers es m r s)
             )
         | inr high ↦ (
             let e : grant n es (Some m) ≡ Carve = cond-false (ltb r n) (Stop (record { model = r })) Carve (le-ltb r n high) in
             let f : Free es m = λ h b. true≢false (sym (bars_test m h b) ∙ l.under h (omega (arith, k.below h b.held))) in
-            (subst (λ (a : Answer). AnswersOrder es m a) (sym e) (carve_answers es m f), ap refused e)
+            subst (λ (o : Outcome). AnswersOrder es m (Ok o)) (sym e) (carve_answers es m f)
             )
       ]
 
-  grant_right : (o : Option ℕ) → Granted o es (grant n es o) × (refused (grant n es o) ≡ None)
-  grant_right None = (refl, refl)
+  grant_right : (o : Option ℕ) → Granted o es (Ok (grant n es o))
+  grant_right None = refl
   grant_right (Some m) = grant_order m
 
-  answer_by : (refuses : Refuses) (call : Call) (o : Option ShopFault) → refusal n refuses es call ≡ o → Lawful n refuses es call (unless o (grant n es (ordered call)))
-  answer_by refuses call None e = let g = grant_right (ordered call) in record { table = g.1 ∙ sym e; granted = λ r. g.0 }
+  answer_by : (refuses : Refuses) (call : Call) (o : Option ShopFault) → refusal n refuses es call ≡ o → Lawful n refuses es call (unless o (Ok (grant n es (ordered call))))
+  answer_by refuses call None e = record { table = sym e; granted = λ r. grant_right (ordered call) }
   answer_by refuses call (Some f) e = lawful_refused n refuses es call f e
 
   -- the computed answer is lawful

@@ -1,31 +1,33 @@
 -- What an answer says.
-use Rattle.std.specs.Prelude.{ℕ, Bool, true, false, Some, None, Option}
+use Rattle.std.specs.Prelude.{ℕ, Bool, true, false, Some, None, Ok, Err, Option, Result}
 use Rattle.std.specs.Option.{option_map}
-use Rattle.history.specs.declared.answer.Answer.{Answer}
-use Rattle.history.specs.declared.answer.Answer.TheVariants.{Done, Carve, Stop, Refused}
+use Rattle.std.specs.Result.{result_err}
+use Rattle.history.specs.declared.answer.Outcome.{Outcome}
+use Rattle.history.specs.declared.answer.Outcome.TheVariants.{Done, Carve, Stop}
 use Rattle.history.specs.declared.fault.ShopFault.{ShopFault}
 use Rattle.history.specs.Faults.{number, values}
 
+-- the answer to a call: what it comes to, or the fault that it is refused with
+abbrev pub Answer : Type 0
+Answer = Result Outcome ShopFault
+
 -- whether the answer is carve
 abbrev pub carved : Answer → Bool
-carved Done = false
-carved Carve = true
-carved (Stop s) = false
-carved (Refused f) = false
+carved (Ok Done) = false
+carved (Ok Carve) = true
+carved (Ok (Stop s)) = false
+carved (Err f) = false
 
 -- the model that a stop names
 abbrev pub named : Answer → Option ℕ
-named Done = None
-named Carve = None
-named (Stop s) = Some s.model
-named (Refused f) = None
+named (Ok Done) = None
+named (Ok Carve) = None
+named (Ok (Stop s)) = Some s.model
+named (Err f) = None
 
 -- the fault of a refusal
 abbrev pub refused : Answer → Option ShopFault
-refused Done = None
-refused Carve = None
-refused (Stop s) = None
-refused (Refused f) = Some f
+refused a = result_err a
 
 -- the number and the values that an answer stands for
 pub record Told : Type 0 where

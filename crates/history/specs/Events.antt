@@ -1,11 +1,10 @@
 -- Histories, and what happened in them.
 use Rattle.std.specs.Prelude.{ℕ, List, [], ◌∷◌, ◌++◌, reverse, Some, None, Option}
 use Rattle.book.specs.declared.derivation.Derivation.{Derivation}
-use Rattle.history.specs.declared.answer.Answer.{Answer}
 use Rattle.history.specs.declared.call.Call.{Call}
 use Rattle.history.specs.declared.call.Call.TheVariants.{Enter, Strike, Index, Hold, Release, Order}
 use Rattle.history.specs.declared.fault.ShopFault.{ShopFault}
-use Rattle.history.specs.Answers.{refused}
+use Rattle.history.specs.Answers.{Answer, refused}
 
 -- the calls made with their answers, newest first
 abbrev pub History : Type 0

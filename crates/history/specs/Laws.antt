@@ -1,12 +1,11 @@
 -- The law: how each call is answered, after the events so far.
-use Rattle.std.specs.Prelude.{◌≡◌, ℕ, ◌<◌, ◌≤◌, true, false, ◌↔◌, List, ◌∷◌, ◌++◌, Some, None, Option}
+use Rattle.std.specs.Prelude.{◌≡◌, ℕ, ◌<◌, ◌≤◌, true, false, ◌↔◌, List, ◌∷◌, ◌++◌, Some, None, Ok, Option}
 use Rattle.lineage.specs.Finite.{Chain}
 use Rattle.index.specs.Builds.{rule}
-use Rattle.history.specs.declared.answer.Answer.{Answer}
-use Rattle.history.specs.declared.answer.Answer.TheVariants.{Done}
+use Rattle.history.specs.declared.answer.Outcome.TheVariants.{Done}
 use Rattle.history.specs.declared.call.Call.{Call}
 use Rattle.history.specs.declared.call.Call.TheVariants.{Enter, Strike, Index, Hold, Release, Order}
-use Rattle.history.specs.Answers.{carved, named, refused, told}
+use Rattle.history.specs.Answers.{Answer, carved, named, refused, told}
 use Rattle.history.specs.Events.{Event, History, happened}
 use Rattle.history.specs.Standing.{stands, held, current}
 use Rattle.history.specs.Table.{Refuses, refusal}
@@ -47,7 +46,7 @@ ordered (Order m) = Some m
 
 -- how a call is answered that is not refused: an order by carve or stop, any other is done
 abbrev pub Granted : Option ℕ → List Event → Answer → Type 0
-Granted None es a = a ≡ Done
+Granted None es a = a ≡ Ok Done
 Granted (Some m) es a = AnswersOrder es m a
 
 -- a call is answered lawfully
@@ -66,7 +65,7 @@ pub record Law (n capacity : ℕ) (h : History) : Type 0 where
   -- every call is refused exactly as the table says, and for no other cause
   pub table : (after before : History) (call : Call) (a : Answer) → h ≡ after ++ (call, a) ∷ before → refused a ≡ refusal n (rule capacity) (happened before) call
   -- a call other than an order that is not refused is done
-  pub done : (after before : History) (call : Call) (a : Answer) → h ≡ after ++ (call, a) ∷ before → ordered call ≡ None → refused a ≡ None → a ≡ Done
+  pub done : (after before : History) (call : Call) (a : Answer) → h ≡ after ++ (call, a) ∷ before → ordered call ≡ None → refused a ≡ None → a ≡ Ok Done
   -- an order for a model of the book while the index is current: carved exactly if no held model leads to the ordered one
   pub carve : (after before : History) (m : ℕ) (a : Answer) → h ≡ after ++ (Order m, a) ∷ before → m < n → current (happened before) ≡ true → (carved a ≡ true) ↔ (Free (happened before) m)
   -- and a stop names the lowest-numbered held model that does

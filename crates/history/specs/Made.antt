@@ -1,11 +1,12 @@
 -- The answer to a call, computed, and the history that calls make.
-use Rattle.std.specs.Prelude.{ℕ, cond, ◌&&◌, List, [], ◌∷◌, Some, None, Option, nat_lt}
+use Rattle.std.specs.Prelude.{ℕ, cond, ◌&&◌, List, [], ◌∷◌, Some, None, Ok, Option, nat_lt}
 use Rattle.lineage.specs.Finite.{least}
 use Rattle.lineage.specs.Book.{leads}
-use Rattle.history.specs.declared.answer.Answer.{Answer}
-use Rattle.history.specs.declared.answer.Answer.TheVariants.{Done, Carve, Stop, Refused}
+use Rattle.book.specs.Refusals.{unless}
+use Rattle.history.specs.declared.answer.Outcome.{Outcome}
+use Rattle.history.specs.declared.answer.Outcome.TheVariants.{Done, Carve, Stop}
 use Rattle.history.specs.declared.call.Call.{Call}
-use Rattle.history.specs.declared.fault.ShopFault.{ShopFault}
+use Rattle.history.specs.Answers.{Answer}
 use Rattle.history.specs.Events.{Event, History, happened}
 use Rattle.history.specs.Standing.{stands, held}
 use Rattle.history.specs.Table.{Refuses, refusal}
@@ -15,19 +16,14 @@ use Rattle.history.specs.Laws.{ordered}
 abbrev pub lowest_held : ℕ → List Event → ℕ → ℕ
 lowest_held n es m = least n (λ h. held es h && leads n (stands es) h m)
 
--- the answer to a call that is not refused
-abbrev pub grant : ℕ → List Event → Option ℕ → Answer
+-- what a call that is not refused comes to
+abbrev pub grant : ℕ → List Event → Option ℕ → Outcome
 grant n es None = Done
 grant n es (Some m) = cond (nat_lt (lowest_held n es m) n) (Stop (record { model = lowest_held n es m })) Carve
 
--- a refusal, or else this answer
-abbrev pub unless : Option ShopFault → Answer → Answer
-unless None a = a
-unless (Some f) a = Refused f
-
 -- the answer to a call after the events so far
 abbrev pub answer_to : ℕ → Refuses → List Event → Call → Answer
-answer_to n refuses es call = unless (refusal n refuses es call) (grant n es (ordered call))
+answer_to n refuses es call = unless (refusal n refuses es call) (Ok (grant n es (ordered call)))
 
 -- a history with one more call
 abbrev pub with_call : ℕ → Refuses → History → Call → History

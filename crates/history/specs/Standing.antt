@@ -2,9 +2,8 @@
 use Rattle.std.specs.Prelude.{◌≡◌, ℕ, Bool, true, false, cond, ◌&&◌, List, [], ◌∷◌, ◌++◌, is_some, Some, None, Option, ◌==◌}
 use Rattle.lineage.specs.Lists.{◌∈◌}
 use Rattle.book.specs.declared.derivation.Derivation.{Derivation}
-use Rattle.history.specs.declared.answer.Answer.{Answer}
 use Rattle.history.specs.declared.call.Call.{Call}
-use Rattle.history.specs.Answers.{refused}
+use Rattle.history.specs.Answers.{Answer, refused}
 use Rattle.history.specs.Events.{Event, entered, struck, indexed, placed, released, History, counts_as}
 
 -- d is the derivation of v from u

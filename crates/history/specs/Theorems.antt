@@ -6,11 +6,10 @@ use Rattle.book.specs.Order.{by_models}
 use Rattle.book.specs.Derivations.{taken_from}
 use Rattle.index.specs.Builds.{rule}
 use Rattle.holds.specs.Holds.{held as held_in, holder_of, apart}
-use Rattle.history.specs.declared.answer.Answer.{Answer}
 use Rattle.history.specs.declared.call.Call.{Call}
 use Rattle.history.specs.declared.call.Call.TheVariants.{Enter, Index, Hold, Order}
 use Rattle.history.specs.declared.fault.ShopFault.{ShopFault}
-use Rattle.history.specs.Answers.{refused, told}
+use Rattle.history.specs.Answers.{Answer, refused, told}
 use Rattle.history.specs.Events.{History, Event, entered, indexed, placed, happened}
 use Rattle.history.specs.Standing.{of_derivation, of_model, of_index, stands, held, holder, current, Last, LastCall}
 use Rattle.history.specs.Table.{Refuses, how_many_stand, how_many_held}

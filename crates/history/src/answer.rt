@@ -5,64 +5,49 @@ ghost use Rattle.history.specs.Answers.{carved, named, refused, told};
 use crate::fault::ShopFault;
 
 /// The held model that a stop names.
-#[derive(Clone, Copy)]
+#[derive(Clone, Copy, Debug, PartialEq, Eq)]
 pub struct Named {
     pub model: u16,
 }
 
-/// The answer to a call: an order is carved or stopped, any other call is done, and each may be refused.
-#[derive(Clone, Copy)]
-pub enum Answer {
+/// What a call that is not refused comes to: an order is carved or stopped, any other call is done.
+#[derive(Clone, Copy, Debug, PartialEq, Eq)]
+pub enum Outcome {
     Done,
     Carve,
     Stop(Named),
-    Refused(ShopFault),
 }
 
-impl Answer {
-    /// Whether the answer is carve.
-    pub fn carved(self) -> bool
-        ensures { result ≡ carved self }
-    {
-        match self {
-            Answer::Carve => true,
-            Answer::Done => false,
-            Answer::Stop(_) => false,
-            Answer::Refused(_) => false,
-        }
-    }
+/// The answer to a call: its outcome, or the fault that it is refused with.
+pub type Answer = Result<Outcome, ShopFault>;
 
-    /// The model that a stop names.
-    pub fn named(self) -> Option<u16>
-        ensures { result ≡ named self }
-    {
-        match self {
-            Answer::Stop(stop) => Some(stop.model),
-            Answer::Done => None,
-            Answer::Carve => None,
-            Answer::Refused(_) => None,
-        }
-    }
+/// Whether the answer is carve.
+pub fn carved(answer: Answer) -> bool
+    ensures { result ≡ carved answer }
+{
+    matches!(answer, Ok(Outcome::Carve))
+}
 
-    /// The fault that the call was refused with.
-    pub fn refused(self) -> Option<ShopFault>
-        ensures { result ≡ refused self }
-    {
-        match self {
-            Answer::Refused(fault) => Some(fault),
-            Answer::Done => None,
-            Answer::Carve => None,
-            Answer::Stop(_) => None,
-        }
+/// The model that a stop names.
+pub fn named_model(answer: Answer) -> Option<u16>
+    ensures { result ≡ named answer }
+{
+    match answer {
+        Ok(Outcome::Stop(stop)) => Some(stop.model),
+        _ => None,
     }
+}
 
-    /// The number of the refusal.
-    pub fn number(self) -> Option<u8>
-        ensures { result ≡ (told self).number }
-    {
-        match self.refused() {
-            Some(fault) => Some(fault.number()),
-            None => None,
-        }
-    }
+/// The fault that the call was refused with.
+pub fn refused(answer: Answer) -> Option<ShopFault>
+    ensures { result ≡ refused answer }
+{
+    answer.err()
+}
+
+/// The number of the refusal.
+pub fn number(answer: Answer) -> Option<u8>
+    ensures { result ≡ (told answer).number }
+{
+    refused(answer).map(ShopFault::number)
 }

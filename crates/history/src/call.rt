@@ -2,7 +2,7 @@
 use book::derivation::Derivation;
 
 /// A call with its numbers. An indexing is lent `work` numbers of work space.
-#[derive(Clone, Copy)]
+#[derive(Clone, Copy, Debug, PartialEq, Eq)]
 pub enum Call {
     Enter(Derivation),
     Strike(Derivation),

@@ -8,7 +8,7 @@ use holds::fault::HoldFault;
 use index::fault::IndexFault;
 
 /// The fault of the part that refused, whole; or that the index is not current.
-#[derive(Clone, Copy)]
+#[derive(Clone, Copy, Debug, PartialEq, Eq)]
 pub enum ShopFault {
     Book(Refusal),
     Index(IndexFault),
