@@ -1,6 +1,5 @@
--- Derivations entered in turn into a shop, one place after another.
-use Rattle.std.proofs.Common.{◌≡◌, ℕ, zero, suc, ◌+◌, List, [], ◌∷◌, ◌++◌, map, reverse, take, Some, None, Option, sym, refl, ap, ◌∙◌, add-one}
-use Rattle.std.specs.List.{slice_get}
+-- Derivations entered in turn into a shop, one more each time.
+use Rattle.std.proofs.Common.{◌≡◌, ℕ, List, [], ◌∷◌, ◌++◌, map, reverse, Some, None, Option, sym, refl, ap, ◌∙◌}
 use Rattle.std.specs.Option.{option_map}
 use Rattle.std.proofs.lemmas.List.{reverse-append, map-append}
 use Rattle.rising.specs.Lists.{insert}
@@ -24,21 +23,6 @@ use Rattle.shop.specs.declared.running.Shop.{Shop}
 use Rattle.shop.specs.Shops.{book_in, Follows, Keeps}
 use Rattle.shop.specs.Loads.{entries}
 use Rattle.shop.proofs.Calls.{kept}
-
--- the front of a list up to a place with an element, and up to one behind the last
-pub take_nth : {X : Type 0} (xs : List X) (i : ℕ) (x : X) → Some x ≡ slice_get xs i → take (i + 1) xs ≡ take i xs ++ x ∷ []
-take_nth xs i x e = ap (λ (k : ℕ). take k xs) (add-one i) ∙ by_suc xs i x e
-  where
-    by_suc : {X : Type 0} (xs : List X) (i : ℕ) (x : X) → Some x ≡ slice_get xs i → take (suc i) xs ≡ take i xs ++ x ∷ []
-    by_suc [] i x e = absurd (none_some (sym e))
-    by_suc (y ∷ xs) zero x e = let f : y ≡ x = cc in ap (λ z. z ∷ []) f
-    by_suc (y ∷ xs) (suc i) x e = ap (λ zs. y ∷ zs) (by_suc xs i x e)
-
-pub take_ends : {X : Type 0} (xs : List X) (i : ℕ) → None ≡ slice_get xs i → take i xs ≡ xs
-take_ends [] zero e = refl
-take_ends [] (suc i) e = refl
-take_ends (y ∷ xs) zero e = absurd (none_some e)
-take_ends (y ∷ xs) (suc i) e = ap (λ zs. y ∷ zs) (take_ends xs i e)
 
 -- one more entry
 pub entries_more : (ds : List Derivation) (d : Derivation) → entries (ds ++ d ∷ []) ≡ (Enter d, Done) ∷ entries ds

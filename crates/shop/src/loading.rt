@@ -16,10 +16,8 @@ pub fn load<I: Index + Drop>(file: &BookFile<'_>, index: I) -> Result<Shop<I>, S
 {
     let count = Count::new(file.models())?;
     let mut shop = Shop::open(count, index);
-    let mut place = 0;
-    while let Some(derivation) = file.at(place) {
+    for derivation in file.derivations() {
         shop.enter(derivation)?;
-        place += 1;
     }
     Ok(shop)
 }
