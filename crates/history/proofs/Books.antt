@@ -15,7 +15,7 @@ use Rattle.history.specs.Events.{Event, entered, struck, indexed, placed, releas
 use Rattle.history.specs.Standing.{is, stands}
 use Rattle.history.specs.Lists.{book_of}
 use Rattle.history.proofs.Last.{same_derivation, itself}
-use Rattle.history.proofs.Steps.{stands_none, stands_entered, stands_struck, stands_indexed, stands_placed, stands_released}
+use Rattle.history.proofs.Steps.{stands_entered, stands_struck}
 
 -- derivations have a total order
 pub models_order : Order by_models
@@ -66,10 +66,10 @@ book_rises (released m ∷ es) = book_rises es
 
 -- the book has exactly the derivations that stand
 pub book_stands : (es : List Event) (u v : ℕ) → taken_from (book_of es) u v ≡ stands es u v
-unfolding book_of
-book_stands [] u v = sym (stands_none u v)
+unfolding book_of stands
+book_stands [] u v = refl
 book_stands (entered d ∷ es) u v = taken_insert (book_of es) (book_rises es) d u v ∙ ap (λ b. is d u v || b) (book_stands es u v) ∙ sym (stands_entered es u v d)
 book_stands (struck d ∷ es) u v = taken_delete (book_of es) (book_rises es) d u v ∙ ap (λ b. not (is d u v) && b) (book_stands es u v) ∙ sym (stands_struck es u v d)
-book_stands (indexed ∷ es) u v = book_stands es u v ∙ sym (stands_indexed es u v)
-book_stands (placed m p ∷ es) u v = book_stands es u v ∙ sym (stands_placed es u v m p)
-book_stands (released m ∷ es) u v = book_stands es u v ∙ sym (stands_released es u v m)
+book_stands (indexed ∷ es) u v = book_stands es u v
+book_stands (placed m p ∷ es) u v = book_stands es u v
+book_stands (released m ∷ es) u v = book_stands es u v

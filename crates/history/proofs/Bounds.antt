@@ -1,5 +1,5 @@
 -- Lawful calls keep the bounds: at most 2,048 derivations stand, and at most 64 models are held.
-use Rattle.std.proofs.Common.{◌≡◌, ℕ, suc, ◌<◌, ◌≤◌, true, false, cond, not, eqb, ltb, leb, List, [], ◌∷◌, ◌++◌, reverse, length, Some, None, Option, ◌∙◌, arith, length-append}
+use Rattle.std.proofs.Common.{◌≡◌, ℕ, suc, ◌<◌, ◌≤◌, true, false, cond, not, eqb, ltb, leb, List, [], ◌∷◌, ◌++◌, reverse, length, None, Ok, Err, ◌∙◌, arith, length-append}
 use Rattle.std.proofs.lemmas.Bool.{leb-false, not-false}
 use Rattle.rising.proofs.Edits.{length_insert, length_delete}
 use Rattle.book.specs.Order.{by_models}
@@ -8,9 +8,8 @@ use Rattle.holds.specs.declared.sheet.Hold.{Hold}
 use Rattle.holds.specs.Holds.{released as without}
 use Rattle.history.specs.declared.call.Call.{Call}
 use Rattle.history.specs.declared.call.Call.TheVariants.{Enter, Strike, Index, Hold as ToHold, Release, Order}
-use Rattle.history.specs.declared.fault.ShopFault.{ShopFault}
-use Rattle.history.specs.Answers.{refused}
-use Rattle.history.specs.Events.{Event, History, counts_as, unless_refused, happened}
+use Rattle.history.specs.Answers.{Answer, refused}
+use Rattle.history.specs.Events.{Event, History, counts_as, events, happened}
 use Rattle.history.specs.Standing.{stands, held}
 use Rattle.history.specs.Table.{Refuses, refusal, how_many_stand, how_many_held}
 use Rattle.history.specs.Laws.{LawfulHistory}
@@ -58,9 +57,9 @@ module _ (n : ℕ) (refuses : Refuses) (es : List Event) (k : Kept n es) (few : 
   few_granted (Release m p) e = let was = few.sheet in record { book = few.book; sheet = omega (arith, shorter (sheet_of es) m) }
   few_granted (Order m) e = few
 
-  few_answered : (call : Call) (o : Option ShopFault) → o ≡ refusal n refuses es call → Few (reverse (unless_refused o (counts_as call)) ++ es)
-  few_answered call None e = few_granted call e
-  few_answered call (Some f) e = few
+  few_answered : (call : Call) (a : Answer) → refused a ≡ refusal n refuses es call → Few (reverse (events call a) ++ es)
+  few_answered call (Ok o) e = few_granted call e
+  few_answered call (Err f) e = few
 
 few_none : Few []
 unfolding book_of sheet_of
@@ -70,7 +69,7 @@ few_lawful : (n : ℕ) (refuses : Refuses) (h : History) → LawfulHistory n ref
 few_lawful n refuses [] l = few_none
 few_lawful n refuses (made ∷ h) l =
     let before = lawful_before n refuses h made l in
-    few_answered n refuses (happened h) (kept_lawful n refuses h before) (few_lawful n refuses h before) made.0 (refused made.1)
+    few_answered n refuses (happened h) (kept_lawful n refuses h before) (few_lawful n refuses h before) made.0 made.1
     (lawful_newest n refuses h made.0 made.1 l).table
 
 pub lawful_bounds : LawfulBounds

@@ -26,17 +26,14 @@ module _ (n : ℕ) (refuses : Refuses) where
   pub lawful_none : LawfulHistory n refuses []
   lawful_none = record { each = λ after before call a e. absurd (no_call after before call a e) }
 
+  abbrev newest_lawful : History → Type 0
+  newest_lawful [] = Unit {0}
+  newest_lawful ((call, a) ∷ before) = Lawful n refuses (happened before) call a
+
   each_more : (h : History) (call : Call) (a : Answer) → Lawful n refuses (happened h) call a → LawfulHistory n refuses h
       → (after before : History) (c : Call) (b : Answer) → ◌≡◌ {A = History} ((call, a) ∷ h) (after ++ (c, b) ∷ before) → Lawful n refuses (happened before) c b
-  each_more h call a l rest [] before c b e =
-      let both : ◌≡◌ {A = Call × Answer} (call, a) (c, b) = cc in
-      let p : call ≡ c = ap (λ (x : Call × Answer). x.0) both in
-      let q : a ≡ b = ap (λ (x : Call × Answer). x.1) both in
-      let r : h ≡ before = cc in
-      subst (λ (x : Call). Lawful n refuses (happened before) x b) p
-      (subst (λ (x : Answer). Lawful n refuses (happened before) call x) q
-      (subst (λ (x : History). Lawful n refuses (happened x) call a) r l))
-  each_more h call a l rest (x ∷ after) before c b e = let r : h ≡ after ++ (c, b) ∷ before = cc in rest.each after before c b r
+  each_more h call a l rest [] before c b e = subst newest_lawful e l
+  each_more h call a l rest (x ∷ after) before c b e = rest.each after before c b cc
 
   pub lawful_more : (h : History) (call : Call) (a : Answer) → Lawful n refuses (happened h) call a → LawfulHistory n refuses h → LawfulHistory n refuses ((call, a) ∷ h)
   lawful_more h call a l rest = record { each = each_more h call a l rest }

@@ -1,7 +1,7 @@
 -- What lawful calls keep: only models below the count stand in derivations and are held, and the sheet has each held model once; so the lists that the shop keeps say what the events say.
-use Rattle.std.proofs.Common.{◌≡◌, ℕ, ◌<◌, Bool, true, false, cond, not, eqb, ltb, List, [], ◌∷◌, ◌++◌, reverse, length, is_some, Some, None, Option, sym, refl, ap, ◌∙◌, inl, inr, arith}
+use Rattle.std.proofs.Common.{◌≡◌, ℕ, ◌<◌, Bool, true, false, cond, not, eqb, ltb, List, [], ◌∷◌, ◌++◌, reverse, length, is_some, Some, None, Ok, Err, Option, sym, refl, ap, ◌∙◌, inl, inr, arith}
 use mathlib.Core.Path.{fun_ext}
-use Rattle.std.proofs.lemmas.Bool.{cases_Bool, cond-true, cond-false, or_cases, and_parts, true≢false, not-false, eqb-true, ltb-true}
+use Rattle.std.proofs.lemmas.Bool.{or_cases, and_parts, not-false, eqb-true, ltb-true}
 use Rattle.lineage.specs.Finite.{Within, count}
 use Rattle.lineage.proofs.Numbers.{total_same, count_same}
 use Rattle.book.specs.declared.derivation.Derivation.{Derivation}
@@ -12,14 +12,14 @@ use Rattle.holds.proofs.Holds.{apart_placed, apart_released}
 use Rattle.history.specs.declared.call.Call.{Call}
 use Rattle.history.specs.declared.call.Call.TheVariants.{Enter, Strike, Index, Hold as ToHold, Release, Order}
 use Rattle.history.specs.declared.fault.ShopFault.{ShopFault}
-use Rattle.history.specs.Answers.{refused}
-use Rattle.history.specs.Events.{Event, History, entered, struck, indexed, placed, released, counts_as, unless_refused, happened}
+use Rattle.history.specs.Answers.{Answer, refused}
+use Rattle.history.specs.Events.{Event, History, entered, struck, indexed, placed, released, counts_as, events, happened}
 use Rattle.history.specs.Standing.{is, stands, held, holder}
 use Rattle.history.specs.Table.{Refuses, check, refusal, how_many_stand, how_many_held}
 use Rattle.history.specs.Laws.{LawfulHistory}
 use Rattle.history.specs.Lists.{book_of, sheet_of}
 use Rattle.history.proofs.Last.{held_holder}
-use Rattle.history.proofs.Steps.{stands_none, stands_entered, stands_struck, stands_indexed, stands_placed, stands_released, holder_none, holder_entered, holder_struck, holder_indexed, holder_placed, holder_released}
+use Rattle.history.proofs.Steps.{stands_entered, stands_struck, holder_placed, holder_released, held_placed, held_released}
 use Rattle.history.proofs.Books.{book_rises, book_stands}
 use Rattle.history.proofs.Sheets.{held_in_holder, holder_of_placed, holder_of_released}
 use Rattle.history.proofs.Lengths.{length_pairs, length_holds}
@@ -51,22 +51,13 @@ module _ (n : ℕ) (es : List Event) (kept : Kept n es) where
       length_holds n (sheet_of es) kept.once (λ m t. kept.below m (sym (sheet_held m) ∙ t))
       ∙ count_same n (held_in (sheet_of es)) (held es) (λ m k. sheet_held m)
 
--- held by the holder, one way and the other
-held_same : (es fs : List Event) (m : ℕ) → holder fs m ≡ holder es m → held fs m ≡ held es m
-held_same es fs m e = held_holder fs m ∙ ap is_some e ∙ sym (held_holder es m)
-
 pub kept_none : (n : ℕ) → Kept n []
-unfolding sheet_of
-kept_none n = record {
-  within = λ u v t. absurd (true≢false (sym t ∙ stands_none u v));
-  below = λ m t. absurd (true≢false (sym t ∙ held_holder [] m ∙ ap is_some (holder_none m)));
-  once = refl;
-  holders = λ m. sym (holder_none m);
-}
+unfolding stands held holder sheet_of
+kept_none n = record { within = λ u v t. cc; below = λ m t. cc; once = refl; holders = λ m. refl }
 
 module _ (n : ℕ) (es : List Event) (k : Kept n es) where
-  pub kept_entered : (d : Derivation) → known n d ≡ true → Kept n (entered d ∷ es)
-  unfolding sheet_of
+  kept_entered : (d : Derivation) → known n d ≡ true → Kept n (entered d ∷ es)
+  unfolding held holder sheet_of
   kept_entered d low = record {
     within = λ u v t. elim (or_cases (is d u v) (stands es u v) (sym (stands_entered es u v d) ∙ t)) [
       | inl e ↦ (
@@ -76,52 +67,41 @@ module _ (n : ℕ) (es : List Event) (k : Kept n es) where
           )
       | inr e ↦ k.within u v e
     ];
-    below = λ m t. k.below m (sym (held_same es (entered d ∷ es) m (holder_entered es m d)) ∙ t);
+    below = k.below;
     once = k.once;
-    holders = λ m. k.holders m ∙ sym (holder_entered es m d);
+    holders = k.holders;
   }
 
-  pub kept_struck : (d : Derivation) → Kept n (struck d ∷ es)
-  unfolding sheet_of
+  kept_struck : (d : Derivation) → Kept n (struck d ∷ es)
+  unfolding held holder sheet_of
   kept_struck d = record {
     within = λ u v t. k.within u v (and_parts (not (is d u v)) (stands es u v) (sym (stands_struck es u v d) ∙ t)).1;
-    below = λ m t. k.below m (sym (held_same es (struck d ∷ es) m (holder_struck es m d)) ∙ t);
+    below = k.below;
     once = k.once;
-    holders = λ m. k.holders m ∙ sym (holder_struck es m d);
+    holders = k.holders;
   }
 
-  pub kept_indexed : Kept n (indexed ∷ es)
-  unfolding sheet_of
-  kept_indexed = record {
-    within = λ u v t. k.within u v (sym (stands_indexed es u v) ∙ t);
-    below = λ m t. k.below m (sym (held_same es (indexed ∷ es) m (holder_indexed es m)) ∙ t);
-    once = k.once;
-    holders = λ m. k.holders m ∙ sym (holder_indexed es m);
-  }
+  kept_indexed : Kept n (indexed ∷ es)
+  unfolding stands held holder sheet_of
+  kept_indexed = record { within = k.within; below = k.below; once = k.once; holders = k.holders }
 
-  pub kept_placed : (x p : ℕ) → x < n → held es x ≡ false → Kept n (placed x p ∷ es)
-  unfolding sheet_of
+  kept_placed : (x p : ℕ) → x < n → held es x ≡ false → Kept n (placed x p ∷ es)
+  unfolding stands sheet_of
   kept_placed x p low e =
       let hold : Hold = record { model = x; holder = p } in
       let new : held_in (sheet_of es) x ≡ false = sheet_held n es k x ∙ e in
       record {
-        within = λ u v t. k.within u v (sym (stands_placed es u v x p) ∙ t);
-        below = λ m t. elim (cases_Bool (eqb x m)) [
-          | inl q ↦ omega (arith, eqb-true x m q)
-          | inr q ↦ k.below m (sym (held_same es (placed x p ∷ es) m (holder_placed es m x p ∙ cond-false (eqb x m) (Some p) (holder es m) q)) ∙ t)
-        ];
+        within = k.within;
+        below = λ m t. elim (or_cases (eqb x m) (held es m) (sym (held_placed es m x p) ∙ t)) [ inl q ↦ omega (arith, eqb-true x m q) | inr q ↦ k.below m q ];
         once = apart_placed (sheet_of es) hold new k.once;
         holders = λ m. holder_of_placed (sheet_of es) hold m new ∙ ap (λ o. cond (eqb x m) (Some p) o) (k.holders m) ∙ sym (holder_placed es m x p);
       }
 
-  pub kept_released : (x : ℕ) → Kept n (released x ∷ es)
-  unfolding sheet_of
+  kept_released : (x : ℕ) → Kept n (released x ∷ es)
+  unfolding stands sheet_of
   kept_released x = record {
-    within = λ u v t. k.within u v (sym (stands_released es u v x) ∙ t);
-    below = λ m t. elim (cases_Bool (eqb x m)) [
-      | inl q ↦ absurd (true≢false (sym t ∙ held_holder (released x ∷ es) m ∙ ap is_some (holder_released es m x ∙ cond-true (eqb x m) None (holder es m) q)))
-      | inr q ↦ k.below m (sym (held_same es (released x ∷ es) m (holder_released es m x ∙ cond-false (eqb x m) None (holder es m) q)) ∙ t)
-    ];
+    within = k.within;
+    below = λ m t. k.below m (and_parts (not (eqb x m)) (held es m) (sym (held_released es m x) ∙ t)).1;
     once = apart_released (sheet_of es) x k.once;
     holders = λ m. holder_of_released (sheet_of es) x m k.once ∙ ap (λ o. cond (eqb x m) None o) (k.holders m) ∙ sym (holder_released es m x);
   }
@@ -143,13 +123,13 @@ module _ (n : ℕ) (refuses : Refuses) (es : List Event) (k : Kept n es) where
   kept_granted (Release m p) e = kept_released n es k m
   kept_granted (Order m) e = k
 
-  kept_answered : (call : Call) (o : Option ShopFault) → o ≡ refusal n refuses es call → Kept n (reverse (unless_refused o (counts_as call)) ++ es)
-  kept_answered call None e = kept_granted call e
-  kept_answered call (Some f) e = k
+  kept_answered : (call : Call) (a : Answer) → refused a ≡ refusal n refuses es call → Kept n (reverse (events call a) ++ es)
+  kept_answered call (Ok o) e = kept_granted call e
+  kept_answered call (Err f) e = k
 
 -- what happened in a lawful history
 pub kept_lawful : (n : ℕ) (refuses : Refuses) (h : History) → LawfulHistory n refuses h → Kept n (happened h)
 kept_lawful n refuses [] l = kept_none n
 kept_lawful n refuses (made ∷ h) l =
-    kept_answered n refuses (happened h) (kept_lawful n refuses h (lawful_before n refuses h made l)) made.0 (refused made.1)
+    kept_answered n refuses (happened h) (kept_lawful n refuses h (lawful_before n refuses h made l)) made.0 made.1
     (lawful_newest n refuses h made.0 made.1 l).table

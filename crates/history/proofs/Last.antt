@@ -1,6 +1,6 @@
 -- The last event that passes a test, searched for and in words; so what stands, what is held and what is current, by the last event of it.
-use Rattle.std.proofs.Common.{◌≡◌, ℕ, Bool, true, false, eqb, List, [], ◌∷◌, ◌++◌, is_some as option_is_some, Some, None, Option, sym, refl, ap, ◌∙◌, subst, inl, inr}
-use Rattle.std.proofs.lemmas.Bool.{cases_Bool, cond-true, cond-false, and_parts, and_from, eqb-true, eq-eqb}
+use Rattle.std.proofs.Common.{◌≡◌, ℕ, Bool, true, false, eqb, List, [], ◌∷◌, ◌++◌, is_some as option_is_some, Some, None, Option, sym, refl, ap, ◌∙◌, subst, inl, inr, arith}
+use Rattle.std.proofs.lemmas.Bool.{cases_Bool, cond-true, cond-false, and_parts, eqb-true}
 use Rattle.lineage.specs.Lists.{◌∈◌}
 use Rattle.book.specs.declared.derivation.Derivation.{Derivation}
 use Rattle.history.specs.Events.{Event, entered, struck, indexed, placed, released}
@@ -15,7 +15,7 @@ same_derivation d u v e =
     λ i. record { from = a i; to = b i }
 
 pub itself : (u v : ℕ) → is (record { from = u; to = v }) u v ≡ true
-itself u v = and_from (eqb u u) (eqb v v) (eq-eqb u u refl) (eq-eqb v v refl)
+itself u v = grind arith
 
 module _ (speaks : Event → Bool) where
   pub last_of : (es : List Event) (e : Event) → last speaks es ≡ Some e → Last speaks es e
@@ -24,7 +24,7 @@ module _ (speaks : Event → Bool) where
       elim (cases_Bool (speaks x)) [
         | inl t ↦ (
             let q : x ≡ e = let r = cond-true (speaks x) (Some x) (last speaks es) t in cc in
-            record { newer = []; older = es; whole = ap (λ (y : Event). y ∷ es) q; passes = subst (λ (y : Event). speaks y ≡ true) q t; silent = λ f m. absurd m }
+            record { newer = []; older = es; whole = ap (λ (y : Event). y ∷ es) q; passes = cc; silent = λ f m. absurd m }
             )
         | inr t ↦ (
             let r = last_of es e (sym (cond-false (speaks x) (Some x) (last speaks es) t) ∙ p) in
@@ -33,14 +33,14 @@ module _ (speaks : Event → Bool) where
               older = r.older;
               whole = ap (λ (ys : List Event). x ∷ ys) r.whole;
               passes = r.passes;
-              silent = λ f m. elim m [ inl q ↦ subst (λ (y : Event). speaks y ≡ false) q t | inr k ↦ r.silent f k ];
+              silent = λ f m. elim m [ inl q ↦ cc | inr k ↦ r.silent f k ];
             }
             )
       ]
 
   last_at : (newer older : List Event) (e : Event) → speaks e ≡ true → ((f : Event) → f ∈ newer → speaks f ≡ false) → last speaks (newer ++ e ∷ older) ≡ Some e
-  last_at [] older e p s = cond-true (speaks e) (Some e) (last speaks older) p
-  last_at (x ∷ newer) older e p s = cond-false (speaks x) (Some x) (last speaks (newer ++ e ∷ older)) (s x (inl refl)) ∙ last_at newer older e p (λ f m. s f (inr m))
+  last_at [] older e p s = rw p refl
+  last_at (x ∷ newer) older e p s = rw (s x (inl refl)) (last_at newer older e p (λ f m. s f (inr m)))
 
   pub of_last : (es : List Event) (e : Event) → Last speaks es e → last speaks es ≡ Some e
   of_last es e l = ap (last speaks) l.whole ∙ last_at l.newer l.older e l.passes l.silent
@@ -67,7 +67,7 @@ hold_is None p e = cc
 hold_is (Some (entered d)) p e = cc
 hold_is (Some (struck d)) p e = cc
 hold_is (Some indexed) p e = cc
-hold_is (Some (placed x q)) p e = (x, let f : q ≡ p = cc in ap (λ (z : ℕ). Some (placed x z)) f)
+hold_is (Some (placed x q)) p e = (x, cc)
 hold_is (Some (released x)) p e = cc
 
 pub is_some : {X : Type 0} (o : Option X) → option_is_some o ≡ true → (x : X) × (o ≡ Some x)

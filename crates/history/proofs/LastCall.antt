@@ -1,14 +1,13 @@
 -- The last event that passes a test is of the last accepted call that counts as such an event.
-use Rattle.std.proofs.Common.{◌≡◌, ℕ, Bool, true, false, eqb, ◌⊎◌, List, [], ◌∷◌, ◌++◌, reverse, is_some as option_is_some, Some, None, Option, sym, refl, ap, ◌∙◌, subst, inl, inr}
+use Rattle.std.proofs.Common.{◌≡◌, ℕ, Bool, true, false, eqb, ◌⊎◌, List, [], ◌∷◌, ◌++◌, reverse, is_some as option_is_some, Some, None, Ok, Err, Option, sym, refl, ap, ◌∙◌, subst, inl, inr, arith}
 use mathlib.Core.List.{reverse_aux}
-use Rattle.std.proofs.lemmas.Bool.{cases_Bool, cond-true, cond-false, eq-eqb}
+use Rattle.std.proofs.lemmas.Bool.{cases_Bool, cond-true, eq-eqb}
 use Rattle.lineage.specs.Lists.{◌∈◌}
 use Rattle.book.specs.declared.derivation.Derivation.{Derivation}
 use Rattle.history.specs.declared.call.Call.{Call}
 use Rattle.history.specs.declared.call.Call.TheVariants.{Enter, Strike, Index, Hold, Release, Order}
-use Rattle.history.specs.declared.fault.ShopFault.{ShopFault}
 use Rattle.history.specs.Answers.{Answer, refused}
-use Rattle.history.specs.Events.{Event, History, entered, struck, indexed, placed, released, counts_as, unless_refused, happened}
+use Rattle.history.specs.Events.{Event, History, entered, struck, indexed, placed, released, counts_as, events, happened}
 use Rattle.history.specs.Standing.{is, of_derivation, of_model, of_index, last, stands, held, holder, current, LastCall}
 use Rattle.history.specs.Theorems.{ByTheLastCall}
 use Rattle.history.proofs.Last.{itself, is_some, held_holder, last_of, of_last, by_the_last_event}
@@ -22,7 +21,7 @@ turned_in : {A : Type 0} (x : A) (xs ys : List A) → x ∈ reverse_aux xs ys �
 turned_in x [] ys h = inr h
 turned_in x (y ∷ xs) ys h = elim (turned_in x xs (y ∷ ys) h) [ inl i ↦ inl (inr i) | inr i ↦ elim i [ inl e ↦ inl (inl e) | inr j ↦ inr j ] ]
 
-in_reverse : {A : Type 0} (x : A) (xs : List A) → x ∈ xs → x ∈ reverse xs
+pub in_reverse : {A : Type 0} (x : A) (xs : List A) → x ∈ xs → x ∈ reverse xs
 in_reverse x xs i = in_turned x xs [] (inl i)
 
 reverse_in : {A : Type 0} (x : A) (xs : List A) → x ∈ reverse xs → x ∈ xs
@@ -34,7 +33,7 @@ module _ (speaks : Event → Bool) where
   last_in (x ∷ xs) e p =
       elim (cases_Bool (speaks x)) [
         | inl t ↦ inl (let r = cond-true (speaks x) (Some x) (last speaks xs) t in cc)
-        | inr t ↦ inr (last_in xs e (sym (cond-false (speaks x) (Some x) (last speaks xs) t) ∙ p))
+        | inr t ↦ inr (last_in xs e (rw t at p))
       ]
 
   -- none passes exactly if the last that passes is none
@@ -43,24 +42,17 @@ module _ (speaks : Event → Bool) where
   last_none (x ∷ xs) p f i =
       elim (cases_Bool (speaks x)) [
         | inl t ↦ let r = cond-true (speaks x) (Some x) (last speaks xs) t in cc
-        | inr t ↦ elim i [
-          | inl e ↦ subst (λ (y : Event). speaks y ≡ false) e t
-          | inr j ↦ last_none xs (sym (cond-false (speaks x) (Some x) (last speaks xs) t) ∙ p) f j
-        ]
+        | inr t ↦ elim i [ inl e ↦ cc | inr j ↦ last_none xs (rw t at p) f j ]
       ]
 
   -- in two lists joined
   last_left : (xs ys : List Event) (e : Event) → last speaks xs ≡ Some e → last speaks (xs ++ ys) ≡ Some e
   last_left [] ys e p = cc
-  last_left (x ∷ xs) ys e p =
-      elim (cases_Bool (speaks x)) [
-        | inl t ↦ cond-true (speaks x) (Some x) (last speaks (xs ++ ys)) t ∙ sym (cond-true (speaks x) (Some x) (last speaks xs) t) ∙ p
-        | inr t ↦ cond-false (speaks x) (Some x) (last speaks (xs ++ ys)) t ∙ last_left xs ys e (sym (cond-false (speaks x) (Some x) (last speaks xs) t) ∙ p)
-      ]
+  last_left (x ∷ xs) ys e p = grind (arith, last_left xs ys e)
 
   last_right : (xs ys : List Event) → ((f : Event) → f ∈ xs → speaks f ≡ false) → last speaks (xs ++ ys) ≡ last speaks ys
   last_right [] ys s = refl
-  last_right (x ∷ xs) ys s = cond-false (speaks x) (Some x) (last speaks (xs ++ ys)) (s x (inl refl)) ∙ last_right xs ys (λ f i. s f (inr i))
+  last_right (x ∷ xs) ys s = rw (s x (inl refl)) (last_right xs ys (λ f i. s f (inr i)))
 
   -- a call of which e is the last event that passes, and with which the search ends
   record Found (h : History) (e : Event) : Type 0 where
@@ -110,33 +102,29 @@ module _ (speaks : Event → Bool) where
       let z : x ≡ e = let y = last_left (reverse (counts_as call)) (happened h) x q in cc in
       found_here h e call a r (q ∙ ap Some z)
 
-  find_by : (h : History) (e : Event) (call : Call) (a : Answer) (o : Option ShopFault) → refused a ≡ o
-      → last speaks (reverse (unless_refused o (counts_as call)) ++ happened h) ≡ Some e → (last speaks (happened h) ≡ Some e → Found h e) → Found ((call, a) ∷ h) e
-  find_by h e call a None r p rest = find_in h e call a (last speaks (reverse (counts_as call))) r refl p rest
-  find_by h e call a (Some f) r p rest = found_later h e (call, a) (λ t. cc) (rest p)
-
   find : (h : History) (e : Event) → last speaks (happened h) ≡ Some e → Found h e
   find [] e p = cc
-  find (made ∷ h) e p = find_by h e made.0 made.1 (refused made.1) refl p (find h e)
+  find ((call, Ok o) ∷ h) e p = find_in h e call (Ok o) (last speaks (reverse (counts_as call))) refl refl p (find h e)
+  find ((call, Err f) ∷ h) e p = found_later h e (call, Err f) (λ t. cc) (find h e p)
 
   -- and back
-  silent_by : (call : Call) (o : Option ShopFault) (es : List Event) → (o ≡ None → (f : Event) → f ∈ counts_as call → speaks f ≡ false)
-      → last speaks (reverse (unless_refused o (counts_as call)) ++ es) ≡ last speaks es
-  silent_by call None es s = last_right (reverse (counts_as call)) es (λ f i. s refl f (reverse_in f (counts_as call) i))
-  silent_by call (Some f) es s = refl
-
   past_silent : (after before : History) → ((c : Call) (a : Answer) (f : Event) → (c, a) ∈ after → refused a ≡ None → f ∈ counts_as c → speaks f ≡ false)
       → last speaks (happened (after ++ before)) ≡ last speaks (happened before)
   past_silent [] before s = refl
-  past_silent (made ∷ after) before s =
-      silent_by made.0 (refused made.1) (happened (after ++ before)) (λ r f i. s made.0 made.1 f (inl refl) r i)
+  past_silent ((call, Ok o) ∷ after) before s =
+      last_right (reverse (counts_as call)) (happened (after ++ before)) (λ f i. s call (Ok o) f (inl refl) refl (reverse_in f (counts_as call) i))
       ∙ past_silent after before (λ c a f i. s c a f (inr i))
+  past_silent ((call, Err g) ∷ after) before s = past_silent after before (λ c a f i. s c a f (inr i))
+
+  accepted_events : (call : Call) (a : Answer) → refused a ≡ None → events call a ≡ counts_as call
+  accepted_events call (Ok o) e = refl
+  accepted_events call (Err f) e = cc
 
   found_last : (h : History) (e : Event) (call : Call) → last speaks (reverse (counts_as call)) ≡ Some e → LastCall speaks h call → last speaks (happened h) ≡ Some e
   found_last h e call p l =
       ap (λ (x : History). last speaks (happened x)) l.whole
       ∙ past_silent l.after ((call, l.answer) ∷ l.before) l.silent
-      ∙ ap (λ (o : Option ShopFault). last speaks (reverse (unless_refused o (counts_as call)) ++ happened l.before)) l.accepted
+      ∙ ap (λ (es : List Event). last speaks (reverse es ++ happened l.before)) (accepted_events call l.answer l.accepted)
       ∙ last_left (reverse (counts_as call)) (happened l.before) e p
 
 -- which call counts as an entry, as a hold, as an indexing

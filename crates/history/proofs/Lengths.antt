@@ -1,6 +1,6 @@
 -- How long a book is, and a sheet: as many as the pairs of models, or the models, that the list has.
 use Rattle.std.proofs.Common.{◌≡◌, ℕ, ◌+◌, ◌<◌, Bool, true, false, cond, not, ◌&&◌, ◌||◌, eqb, List, [], ◌∷◌, length, Less, sym, refl, ap, ◌∙◌, arith}
-use Rattle.std.proofs.lemmas.Bool.{true≢false, and_parts, and_from, and_left, or_left, or_right, not-true, eq-eqb, eqb-true, ne_eqb}
+use Rattle.std.proofs.lemmas.Bool.{and_parts, or_left, or_right, not-true, eq-eqb, eqb-true}
 use Rattle.lineage.specs.Finite.{total, count}
 use Rattle.lineage.proofs.Numbers.{refuted, total_none, total_same, total_add}
 use Rattle.lineage.proofs.Ranks.{total_single}
@@ -20,24 +20,15 @@ abbrev bit : Bool → ℕ
 bit b = cond b 1 0
 
 either : (a b : Bool) → (a ≡ true → b ≡ true → ⊥) → bit (a || b) ≡ bit a + bit b
-either true true h = absurd (h refl refl)
-either true false h = refl
-either false true h = refl
-either false false h = refl
-
-bit_true : (b : Bool) → b ≡ true → bit b ≡ 1
-bit_true b e = ap bit e
-
-bit_false : (b : Bool) → b ≡ false → bit b ≡ 0
-bit_false b e = ap bit e
+either a b h = grind arith
 
 one_model : (n x : ℕ) → x < n → count n (λ m. eqb x m) ≡ 1
-one_model n x l = total_single n x (λ m. bit (eqb x m)) l (λ j k d. bit_false (eqb x j) (ne_eqb x j (λ e. d (sym e)))) ∙ bit_true (eqb x x) (eq-eqb x x refl)
+one_model n x l = total_single n x (λ m. bit (eqb x m)) l (λ j k d. grind arith) ∙ ap bit (eq-eqb x x refl)
 
 one_pair : (n : ℕ) (d : Derivation) → d.from < n → d.to < n → total n (λ u. count n (is d u)) ≡ 1
 one_pair n d a b =
     total_single n d.from (λ u. count n (is d u)) a
-    (λ u l e. total_none n (λ v. bit (is d u v)) (λ v k. bit_false (is d u v) (and_left (eqb d.from u) (eqb d.to v) (ne_eqb d.from u (λ f. e (sym f))))))
+    (λ u l e. total_none n (λ v. bit (is d u v)) (λ v k. grind arith))
     ∙ total_same n (λ v. bit (is d d.from v)) (λ v. bit (eqb d.to v)) (λ v k. ap (λ t. bit (t && eqb d.to v)) (eq-eqb d.from d.from refl))
     ∙ one_model n d.to b
 
@@ -46,15 +37,14 @@ first_once : (d : Derivation) (ds : List Derivation) → rising by_models (d ∷
 first_once d ds up = refuted (taken_from ds d.from d.to) (λ t.
     let h = taken_has ds d t in
     let l : by_models d d ≡ Less = ap (by_models d) (sym (h.2 d)) ∙ below_each_head by_models d ds (rises_from_rising by_models models_order (d ∷ ds) up) h.0 d h.1 in
-    let e = models_order.itself d in
-    let z : ◌≡◌ {A = ℕ} 0 1 = cc in omega arith)
+    let e = models_order.itself d in cc)
 
 first_apart : (d : Derivation) (ds : List Derivation) (u v : ℕ) → rising by_models (d ∷ ds) ≡ true → is d u v ≡ true → taken_from ds u v ≡ true → ⊥
 first_apart d ds u v up e t =
     let p = and_parts (eqb d.from u) (eqb d.to v) e in
     let a = eqb-true d.from u p.0 in
     let b = eqb-true d.to v p.1 in
-    true≢false (sym t ∙ sym (ap (λ x. taken_from ds x v) a) ∙ sym (ap (λ y. taken_from ds d.from y) b) ∙ first_once d ds up)
+    let f = first_once d ds up in cc
 
 module _ (n : ℕ) where
   -- a rising list of derivations between models below n is as long as the pairs that it has
@@ -62,7 +52,7 @@ module _ (n : ℕ) where
   length_pairs [] up low = sym (total_none n (λ u. count n (λ v. false)) (λ u l. total_none n (λ v. 0) (λ v k. refl)))
   length_pairs (d ∷ ds) up low =
       let rest = length_pairs ds (and_parts (below_first by_models d ds) (rising by_models ds) up).1 (λ u v t. low u v (or_right (is d u v) (taken_from ds u v) t)) in
-      let here = low d.from d.to (or_left (is d d.from d.to) (taken_from ds d.from d.to) (and_from (eqb d.from d.from) (eqb d.to d.to) (eq-eqb d.from d.from refl) (eq-eqb d.to d.to refl))) in
+      let here = low d.from d.to (or_left (is d d.from d.to) (taken_from ds d.from d.to) (grind arith)) in
       let one = one_pair n d here.0 here.1 in
       let row : (u : ℕ) → count n (taken_from (d ∷ ds) u) ≡ count n (is d u) + count n (taken_from ds u) = λ u.
       total_same n (λ v. bit (taken_from (d ∷ ds) u v)) (λ v. bit (is d u v) + bit (taken_from ds u v)) (λ v k. either (is d u v) (taken_from ds u v) (first_apart d ds u v up))
@@ -80,7 +70,6 @@ module _ (n : ℕ) where
       let rest = length_holds hs p.1 (λ m t. low m (or_right (eqb h.model m) (held hs m) t)) in
       let one = one_model n h.model (low h.model (or_left (eqb h.model h.model) (held hs h.model) (eq-eqb h.model h.model refl))) in
       let all : count n (held (h ∷ hs)) ≡ count n (λ m. eqb h.model m) + count n (held hs) =
-      total_same n (λ m. bit (held (h ∷ hs) m)) (λ m. bit (eqb h.model m) + bit (held hs m)) (λ m k. either (eqb h.model m) (held hs m) (λ e t.
-      true≢false (sym t ∙ sym (ap (held hs) (eqb-true h.model m e)) ∙ not-true (held hs h.model) p.0)))
+      total_same n (λ m. bit (held (h ∷ hs) m)) (λ m. bit (eqb h.model m) + bit (held hs m)) (λ m k. either (eqb h.model m) (held hs m) (λ e t. let a = eqb-true h.model m e in let b = not-true (held hs h.model) p.0 in cc))
       ∙ total_add n (λ m. bit (eqb h.model m)) (λ m. bit (held hs m)) in
       omega arith

@@ -1,15 +1,13 @@
 -- The computed answer is lawful, so any calls make one lawful history; and what orders are answered.
 use Rattle.std.proofs.Common.{◌≡◌, ℕ, Bool, true, false, cond, not, ◌&&◌, ltb, List, [], ◌∷◌, ◌++◌, Some, None, Ok, Option, sym, refl, ap, ◌∙◌, subst, inl, inr, arith}
 use Rattle.std.specs.Option.{option_map}
-use Rattle.std.proofs.lemmas.Bool.{cases_lt, cond-true, cond-false, lt-ltb, le-ltb, and_parts, and_from, true≢false, ltb-true, not-false}
+use Rattle.std.proofs.lemmas.Bool.{cases_lt, lt-ltb, le-ltb, and_parts, and_from, true≢false, ltb-true, not-false}
 use Rattle.lineage.specs.Book.{leads}
 use Rattle.lineage.proofs.Numbers.{Least, least_is}
 use Rattle.lineage.proofs.Groups.{leads_sound, leads_whole}
 use Rattle.index.specs.Builds.{rule}
 use Rattle.book.specs.Refusals.{unless}
 use Rattle.book.specs.declared.refusal.Refusal.TheVariants.{NoSuchModel}
-use Rattle.history.specs.declared.answer.Outcome.{Outcome}
-use Rattle.history.specs.declared.answer.Outcome.TheVariants.{Carve, Stop}
 use Rattle.history.specs.declared.call.Call.{Call}
 use Rattle.history.specs.declared.call.Call.TheVariants.{Enter, Strike, Index, Hold, Release, Order}
 use Rattle.history.specs.declared.fault.ShopFault.{ShopFault}
@@ -46,17 +44,15 @@ module _ (n : ℕ) (es : List Event) (k : Kept n es) where
       let l = lowest_is m in
       elim (cases_lt r n) [
         | inl low ↦ (
-            let e : grant n es (Some m) ≡ Stop (record { model = r }) = cond-true (ltb r n) (Stop (record { model = r })) Carve (lt-ltb r n low) in
             let s : Lowest es m r = record {
               bars = test_bars m r (l.hit low);
               lowest = λ h b. elim (cases_lt h r) [ inl o ↦ absurd (true≢false (sym (bars_test m h b) ∙ l.under h o)) | inr o ↦ o ];
             } in
-            subst (λ (o : Outcome). AnswersOrder es m (Ok o)) (sym e) (stop_answers es m r s)
+            rw (lt-ltb r n low) (stop_answers es m r s)
             )
         | inr high ↦ (
-            let e : grant n es (Some m) ≡ Carve = cond-false (ltb r n) (Stop (record { model = r })) Carve (le-ltb r n high) in
             let f : Free es m = λ h b. true≢false (sym (bars_test m h b) ∙ l.under h (omega (arith, k.below h b.held))) in
-            subst (λ (o : Outcome). AnswersOrder es m (Ok o)) (sym e) (carve_answers es m f)
+            rw (le-ltb r n high) (carve_answers es m f)
             )
       ]
 

@@ -1,8 +1,8 @@
 -- What the book and the sheet refuse, of the lists that the events make, is what the table says; and what an index of that book tells of held models.
-use Rattle.std.proofs.Common.{◌≡◌, ℕ, ◌<◌, Bool, true, false, cond, not, ◌&&◌, eqb, ltb, leb, List, length, is_some, Some, None, Decides, Option, sym, refl, ap, ◌∙◌, subst, inl, inr}
+use Rattle.std.proofs.Common.{◌≡◌, ℕ, ◌<◌, Bool, true, cond, not, ◌&&◌, eqb, ltb, leb, List, is_some, Some, None, Decides, Option, sym, refl, ap, ◌∙◌, arith}
 use Rattle.std.specs.Option.{option_map}
-use Rattle.std.proofs.lemmas.Bool.{cases_lt, lt-ltb, le-ltb, lt-leb, le-leb, and_parts, and_from}
-use Rattle.lineage.specs.Finite.{Chain}
+use Rattle.std.proofs.lemmas.Bool.{and_parts, and_from}
+use Rattle.std.proofs.lemmas.Bool.Decides.{nat_tests}
 use Rattle.lineage.proofs.Numbers.{same_tests}
 use Rattle.rising.specs.Lists.{rising, stands as stands_in}
 use Rattle.rising.specs.declared.lent.Added.TheVariants.{Added as Done, StandsAlready as Standing, Full}
@@ -12,7 +12,7 @@ use Rattle.book.specs.declared.derivation.Derivation.{Derivation}
 use Rattle.book.specs.declared.refusal.Refusal.TheVariants.{NoSuchModel, FromItself, StandsAlready, BookFull, DoesNotStand}
 use Rattle.book.specs.Order.{by_models}
 use Rattle.book.specs.Refusals.{first, add_refusal, remove_refusal}
-use Rattle.book.specs.Derivations.{known, taken_from, unknown, improper}
+use Rattle.book.specs.Derivations.{known, taken_from}
 use Rattle.book.specs.Books.{entry_refusal, strike_refusal}
 use Rattle.book.proofs.Taken.{has_taken, taken_has}
 use Rattle.index.specs.Meanings.{Meaning, tells, Means}
@@ -32,11 +32,7 @@ use Rattle.history.proofs.Kept.{Kept, book_test, book_length, sheet_held, sheet_
 
 -- enough, or room for more
 enough : (a b : ℕ) → leb a b ≡ not (ltb b a)
-enough a b =
-    elim (cases_lt b a) [
-      | inl l ↦ lt-leb a b l ∙ sym (ap not (lt-ltb b a l))
-      | inr l ↦ le-leb a b l ∙ sym (ap not (le-ltb b a l))
-    ]
+enough a b = grind (arith, nat_tests)
 
 -- a derivation is found in a rising list exactly if the list has it
 found_taken : (ds : List Derivation) (d : Derivation) → rising by_models ds ≡ true → stands_in by_models ds d ≡ taken_from ds d.from d.to
@@ -51,66 +47,39 @@ found_stands es d = found_taken (book_of es) d (book_rises es) ∙ book_stands e
 entry_row : (k e s room : Bool) →
     check (not k) (OfBook NoSuchModel) (check e (OfBook FromItself) (check s (OfBook StandsAlready) (check (not room) (OfBook BookFull) None)))
     ≡ option_map OfBook (first (first (cond k None (Some NoSuchModel)) (cond e (Some FromItself) None)) (add_refusal (cond s Standing (cond room Done Full))))
-entry_row false e s room = refl
-entry_row true true s room = refl
-entry_row true false true room = refl
-entry_row true false false true = refl
-entry_row true false false false = refl
+entry_row k e s room = grind arith
 
 strike_row : (k s : Bool) →
     check (not k) (OfBook NoSuchModel) (check (not s) (OfBook DoesNotStand) None)
     ≡ option_map OfBook (first (cond k None (Some NoSuchModel)) (remove_refusal (cond s Gone NotThere)))
-strike_row false s = refl
-strike_row true true = refl
-strike_row true false = refl
+strike_row k s = grind arith
 
 hold_row : (h room : Bool) → check h (OfHold OnHold) (check (not room) (OfHold SheetFull) None) ≡ option_map OfHold (cond h (Some OnHold) (cond room None (Some SheetFull)))
-hold_row true room = refl
-hold_row false true = refl
-hold_row false false = refl
+hold_row h room = grind arith
 
 release_row : (o : Option ℕ) (p : ℕ) → check (not (is_some o)) (OfHold NotOnHold) (check (anothers o p) (OfHold AnothersHold) None) ≡ option_map OfHold (release_fault o p)
 release_row None p = refl
-release_row (Some q) p =
-    elim (eqb q p) as (λ b. check (not b) (OfHold AnothersHold) None ≡ option_map OfHold (cond b None (Some AnothersHold))) [ true ↦ refl | false ↦ refl ]
+release_row (Some q) p = grind arith
 
 module _ (n : ℕ) (refuses : Refuses) (es : List Event) (k : Kept n es) where
   pub entry_owed : (d : Derivation) → refusal n refuses es (Enter d) ≡ option_map OfBook (entry_refusal n (book_of es) d)
-  entry_owed d =
-      ap (λ b. check (not (known n d)) (OfBook NoSuchModel) (check (eqb d.from d.to) (OfBook FromItself) (check (stands es d.from d.to) (OfBook StandsAlready) (check b (OfBook BookFull) None))))
-      (enough 2048 (how_many_stand n es) ∙ ap (λ (x : ℕ). not (ltb x 2048)) (sym (book_length n es k)))
-      ∙ entry_row (known n d) (eqb d.from d.to) (stands es d.from d.to) (ltb (length (book_of es)) 2048)
-      ∙ ap (λ s. option_map OfBook (first (improper n d) (add_refusal (cond s Standing (cond (ltb (length (book_of es)) 2048) Done Full))))) (sym (found_stands es d))
+  entry_owed d = rw (enough 2048 (how_many_stand n es), book_length n es k, found_stands es d) (entry_row (known n d) (eqb d.from d.to) (stands es d.from d.to) (ltb (how_many_stand n es) 2048))
 
   pub strike_owed : (d : Derivation) → refusal n refuses es (Strike d) ≡ option_map OfBook (strike_refusal n (book_of es) d)
-  strike_owed d =
-      strike_row (known n d) (stands es d.from d.to)
-      ∙ ap (λ s. option_map OfBook (first (unknown n d) (remove_refusal (cond s Gone NotThere)))) (sym (found_stands es d))
+  strike_owed d = rw (found_stands es d) (strike_row (known n d) (stands es d.from d.to))
 
   pub index_owed : (work : ℕ) → refusal n refuses es (Index work) ≡ option_map OfIndex (refuses n (taken_from (book_of es)) work)
   index_owed work = ap (λ R. option_map OfIndex (refuses n R work)) (sym (book_test es))
 
   pub hold_owed : (m p : ℕ) → refusal n refuses es (Hold m p) ≡ check (not (ltb m n)) (OfBook NoSuchModel) (option_map OfHold (place_fault (sheet_of es) m))
-  hold_owed m p =
-      ap (check (not (ltb m n)) (OfBook NoSuchModel))
-      (ap (λ b. check (held es m) (OfHold OnHold) (check b (OfHold SheetFull) None)) (enough 64 (how_many_held n es) ∙ ap (λ (x : ℕ). not (ltb x 64)) (sym (sheet_length n es k)))
-      ∙ hold_row (held es m) (ltb (length (sheet_of es)) 64)
-      ∙ ap (λ b. option_map OfHold (cond b (Some OnHold) (cond (ltb (length (sheet_of es)) 64) None (Some SheetFull)))) (sym (sheet_held n es k m)))
+  hold_owed m p = rw (enough 64 (how_many_held n es), sheet_length n es k, sheet_held n es k m) (ap (check (not (ltb m n)) (OfBook NoSuchModel)) (hold_row (held es m) (ltb (how_many_held n es) 64)))
 
   pub release_owed : (m p : ℕ) → refusal n refuses es (Release m p) ≡ check (not (ltb m n)) (OfBook NoSuchModel) (option_map OfHold (release_fault (holder_of (sheet_of es) m) p))
-  release_owed m p =
-      ap (check (not (ltb m n)) (OfBook NoSuchModel))
-      (ap (λ b. check (not b) (OfHold NotOnHold) (check (anothers (holder es m) p) (OfHold AnothersHold) None)) (held_holder es m)
-      ∙ release_row (holder es m) p
-      ∙ ap (λ o. option_map OfHold (release_fault o p)) (sym (k.holders m)))
+  release_owed m p = rw (held_holder es m, k.holders m) (ap (check (not (ltb m n)) (OfBook NoSuchModel)) (release_row (holder es m) p))
 
-  -- a model of the sheet of which an index of the book says that it leads to m, is held and leads to m
-  pub bars_told : (is : Meaning) → Means is n (taken_from (book_of es)) → (m h : ℕ) → m < n → Decides (held_in (sheet_of es) h && tells is h m) (Bars es m h)
-  bars_told is means m h low = (
-    (λ t.
-        let p = and_parts (held_in (sheet_of es) h) (tells is h m) t in
-        let on : held es h ≡ true = sym (sheet_held n es k h) ∙ p.0 in
-        record { held = on; leads = subst (λ (R : ℕ → ℕ → Bool). Chain R h m) (book_test es) ((means.leads h m (k.below h on) low).0 p.1) }),
-    (λ b. and_from (held_in (sheet_of es) h) (tells is h m) (sheet_held n es k h ∙ b.held)
-        ((means.leads h m (k.below h b.held) low).1 (subst (λ (R : ℕ → ℕ → Bool). Chain R h m) (sym (book_test es)) b.leads))),
+  -- a model of the sheet of which an index of what stands says that it leads to m, is held and leads to m
+  pub bars_told : (is : Meaning) → Means is n (stands es) → (m h : ℕ) → m < n → Decides (held_in (sheet_of es) h && tells is h m) (Bars es m h)
+  bars_told is means m h low = rw (sheet_held n es k h) (
+    (λ t. let p = and_parts (held es h) (tells is h m) t in record { held = p.0; leads = (means.leads h m (k.below h p.0) low).0 p.1 }),
+    (λ b. and_from (held es h) (tells is h m) b.held ((means.leads h m (k.below h b.held) low).1 b.leads)),
   )

@@ -1,16 +1,19 @@
 -- A refused call and an order change nothing.
-use Rattle.std.proofs.Common.{◌≡◌, List, [], ◌++◌, reverse, Some, None, Option, refl, ap}
+use Rattle.std.proofs.Common.{◌≡◌, ℕ, ◌∷◌, Some, Ok, Err, refl}
+use Rattle.history.specs.declared.call.Call.{Call}
+use Rattle.history.specs.declared.call.Call.TheVariants.{Order}
 use Rattle.history.specs.declared.fault.ShopFault.{ShopFault}
-use Rattle.history.specs.Answers.{refused}
-use Rattle.history.specs.Events.{Event, counts_as, unless_refused, happened}
+use Rattle.history.specs.Answers.{Answer, refused}
+use Rattle.history.specs.Events.{History, happened}
 use Rattle.history.specs.Theorems.{RefusedChangesNothing}
 
-no_event : (o : Option ShopFault) → unless_refused o [] ≡ []
-no_event None = refl
-no_event (Some f) = refl
+by_a_refusal : (h : History) (call : Call) (a : Answer) (f : ShopFault) → refused a ≡ Some f → happened ((call, a) ∷ h) ≡ happened h
+by_a_refusal h call (Ok o) f e = cc
+by_a_refusal h call (Err g) f e = refl
+
+by_an_order : (h : History) (m : ℕ) (a : Answer) → happened ((Order m, a) ∷ h) ≡ happened h
+by_an_order h m (Ok o) = refl
+by_an_order h m (Err f) = refl
 
 pub refused_changes_nothing : RefusedChangesNothing
-refused_changes_nothing = record {
-  refused = λ h call a f e. ap (λ (o : Option ShopFault). reverse (unless_refused o (counts_as call)) ++ happened h) e;
-  order = λ h m a. ap (λ (es : List Event). reverse es ++ happened h) (no_event (refused a));
-}
+refused_changes_nothing = record { refused = by_a_refusal; order = by_an_order }

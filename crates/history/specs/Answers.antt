@@ -1,6 +1,6 @@
 -- What an answer says.
 use Rattle.std.specs.Prelude.{ℕ, Bool, true, false, Some, None, Ok, Err, Option, Result}
-use Rattle.std.specs.Option.{option_map}
+use Rattle.std.specs.Option.{option_map, option_and_then}
 use Rattle.std.specs.Result.{result_err}
 use Rattle.history.specs.declared.answer.Outcome.{Outcome}
 use Rattle.history.specs.declared.answer.Outcome.TheVariants.{Done, Carve, Stop}
@@ -36,11 +36,6 @@ pub record Told : Type 0 where
   pub carved : Bool
   pub named : Option ℕ
 
--- what a fault brings, if there is one
-abbrev pub brought : Option ShopFault → Option (ℕ × ℕ)
-brought None = None
-brought (Some f) = values f
-
 -- the number of its refusal with the values that it brings, whether it is carve, and the model that it names
 abbrev pub told : Answer → Told
-told a = record { number = option_map number (refused a); values = brought (refused a); carved = carved a; named = named a }
+told a = record { number = option_map number (refused a); values = option_and_then values (refused a); carved = carved a; named = named a }

@@ -1,10 +1,9 @@
 -- Histories, and what happened in them.
-use Rattle.std.specs.Prelude.{ℕ, List, [], ◌∷◌, ◌++◌, reverse, Some, None, Option}
+use Rattle.std.specs.Prelude.{ℕ, List, [], ◌∷◌, ◌++◌, reverse, Ok, Err}
 use Rattle.book.specs.declared.derivation.Derivation.{Derivation}
 use Rattle.history.specs.declared.call.Call.{Call}
 use Rattle.history.specs.declared.call.Call.TheVariants.{Enter, Strike, Index, Hold, Release, Order}
-use Rattle.history.specs.declared.fault.ShopFault.{ShopFault}
-use Rattle.history.specs.Answers.{Answer, refused}
+use Rattle.history.specs.Answers.{Answer}
 
 -- the calls made with their answers, newest first
 abbrev pub History : Type 0
@@ -27,14 +26,10 @@ counts_as (Hold m p) = placed m p ∷ []
 counts_as (Release m p) = released m ∷ []
 counts_as (Order m) = []
 
--- of a refused call, none
-abbrev pub unless_refused : Option ShopFault → List Event → List Event
-unless_refused None es = es
-unless_refused (Some f) es = []
-
--- the events of a call so answered, in the order in which they happen
+-- the events of a call so answered, in the order in which they happen: of a refused call, none
 abbrev pub events : Call → Answer → List Event
-events call answer = unless_refused (refused answer) (counts_as call)
+events call (Ok o) = counts_as call
+events call (Err f) = []
 
 -- the events of a history, newest first
 abbrev pub happened : History → List Event
