@@ -7,7 +7,7 @@ use Rattle.lines.specs.declared.form.Form.{Form}
 use Rattle.lines.specs.declared.form.Form.TheVariants.{Enter, Strike, Index, Hold, Release, Order}
 use Rattle.lines.specs.Texts.{spaced, listed, Parsed, NoNext, NoOne, NoTwo, Spaced}
 use Rattle.lines.specs.Computed.{next_of, lone, lone_of, beside, one_of, pair_of, two_of, once, twice, bare, form_of}
-use Rattle.lines.proofs.Texts.{next_cases, spaced_same, head_same, tail_same, parsed_heard}
+use Rattle.lines.proofs.Texts.{next_cases, not_alone, no_second, head_same, tail_same, parsed_heard}
 
 next_is : (bytes : List ℕ) → MatchOption (next_of bytes) (NoNext bytes) (λ p. Spaced bytes p.0 p.1)
 next_is [] = λ v rest s. let e = s.whole in let z : ◌≡◌ {A = ℕ} 0 1 = cc in omega arith
@@ -17,10 +17,7 @@ next_is (c ∷ cs) = cond_both (eqb c 32) (first_number cs) None (λ o. MatchOpt
 
 lone_is : (bytes : List ℕ) (v : ℕ) (rest : List ℕ) → Spaced bytes v rest → MatchOption (lone v rest) (NoOne bytes) (λ w. (w < 65536) × (bytes ≡ listed (w ∷ [])))
 lone_is bytes v [] s = (s.small, s.whole)
-lone_is bytes v (c ∷ cs) s = λ w h e.
-    let q : Spaced bytes w [] = record { small = h; whole = e; ends = refl } in
-    let t : c ∷ cs ≡ [] = (spaced_same bytes v w (c ∷ cs) [] s q).1 in
-    let z : ◌≡◌ {A = ℕ} 0 1 = cc in omega arith
+lone_is bytes v (c ∷ cs) s = not_alone bytes v (c ∷ cs) s (λ e. let z : ◌≡◌ {A = ℕ} 0 1 = cc in omega arith)
 
 lone_of_is : (bytes : List ℕ) (o : Option (ℕ × List ℕ)) → MatchOption o (NoNext bytes) (λ p. Spaced bytes p.0 p.1)
     → MatchOption (lone_of o) (NoOne bytes) (λ w. (w < 65536) × (bytes ≡ listed (w ∷ [])))
@@ -33,9 +30,7 @@ one_is bytes = lone_of_is bytes (next_of bytes) (next_is bytes)
 beside_is : (bytes : List ℕ) (u : ℕ) (rest : List ℕ) (o : Option ℕ) → Spaced bytes u rest
     → MatchOption o (NoOne rest) (λ w. (w < 65536) × (rest ≡ listed (w ∷ [])))
     → MatchOption (beside u o) (NoTwo bytes) (λ p. ((p.0 < 65536) × (p.1 < 65536)) × (bytes ≡ listed (p.0 ∷ (p.1 ∷ []))))
-beside_is bytes u rest None s h = λ a b la lb e.
-    let q : Spaced bytes a (listed (b ∷ [])) = record { small = la; whole = e; ends = refl } in
-    h b lb (spaced_same bytes u a rest (listed (b ∷ [])) s q).1
+beside_is bytes u rest None s h = no_second bytes u rest s h
 beside_is bytes u rest (Some v) s h = ((s.small, h.0), s.whole ∙ ap (λ xs. spaced u ++ xs) h.1)
 
 pair_is : (bytes : List ℕ) (o : Option (ℕ × List ℕ)) → MatchOption o (NoNext bytes) (λ p. Spaced bytes p.0 p.1)

@@ -1,63 +1,36 @@
 -- The lines of a file from its first line on: as the reader meets them, and put together again.
-use Rattle.std.proofs.Common.{◌≡◌, ℕ, suc, ◌+◌, ◌<◌, ◌≤◌, Bool, true, false, cond, eqb, List, [], ◌∷◌, ◌++◌, length, get_or, take, drop, sym, refl, ap, ◌∙◌, append_assoc, add-one, arith}
-use Rattle.std.specs.List.{flat_map, AllByRecursion}
-use Rattle.std.proofs.lemmas.List.{length-drop, drop_more, at_drop_more, at_drop_all, drop-drop, nil_from_length}
-use Rattle.std.proofs.lemmas.Bool.{eqb-true, eqb-false, eq-eqb, ne_eqb, cond-true, cond-false, false≢true}
-use Rattle.lines.specs.Lines.{onto, lines_of, end_of, between, last_end, Clear, ended}
+use Rattle.std.proofs.Common.{◌≡◌, ℕ, suc, ◌+◌, ◌<◌, ◌≤◌, Bool, true, false, cond, not, eqb, List, [], ◌∷◌, ◌++◌, length, get_or, take, drop, sym, refl, ap, ◌∙◌, append_assoc, add-one, arith}
+use Rattle.std.specs.List.{flat_map, AllByRecursion, position_or_len, before_first}
+use Rattle.std.proofs.lemmas.List.{length-drop, drop_more, nil_from_length}
+use Rattle.std.proofs.lemmas.Bool.{eqb-true, eqb-false, ne_eqb, false≢true}
+use Rattle.lines.specs.Lines.{onto, lines_of, between, last_end, Clear, ended}
 
-end_by : (t : Bool) (e n : ℕ) → e ≤ n → cond t 0 (suc e) ≤ suc n
-end_by true e n h = omega arith
-end_by false e n h = omega arith
+-- the byte that a line ends with
+abbrev pub is_end : ℕ → Bool
+is_end b = eqb b 10
 
-pub end_within : (bytes : List ℕ) → end_of bytes ≤ length bytes
-unfolding end_of
-end_within [] = omega arith
-end_within (b ∷ bs) = end_by (eqb b 10) (end_of bs) (length bs) (end_within bs)
-
--- the search for the end, one byte on
-pub end_here : (bytes : List ℕ) (i : ℕ) → i < length bytes → get_or bytes i 0 ≡ 10 → end_of (drop i bytes) ≡ 0
-unfolding end_of
-end_here bytes i h e = at_drop_more end_of bytes i 0 h ∙ cond-true _ _ _ (eq-eqb (get_or bytes i 0) 10 e)
-
-pub end_beyond : (bytes : List ℕ) (i : ℕ) → i < length bytes → (get_or bytes i 0 ≡ 10 → ⊥) → end_of (drop i bytes) ≡ suc (end_of (drop (i + 1) bytes))
-unfolding end_of
-end_beyond bytes i h e = at_drop_more end_of bytes i 0 h ∙ cond-false _ _ _ (ne_eqb (get_or bytes i 0) 10 e)
-
-pub end_none : (bytes : List ℕ) (i : ℕ) → length bytes ≤ i → end_of (drop i bytes) ≡ 0
-unfolding end_of
-end_none bytes i h = at_drop_all end_of bytes i h
-
-last_by : (t : Bool) (b : ℕ) → cond t ([] ∷ []) ((b ∷ []) ∷ []) ≡ take (cond t 0 1) (b ∷ []) ∷ lines_of (drop (suc (cond t 0 1)) (b ∷ []))
+last_by : (t : Bool) (b : ℕ) → cond t ([] ∷ []) ((b ∷ []) ∷ []) ≡ take (cond (not t) 1 0) (b ∷ []) ∷ lines_of (drop (suc (cond (not t) 1 0)) (b ∷ []))
 unfolding lines_of
 last_by true b = refl
 last_by false b = refl
 
-more_by : (t : Bool) (b : ℕ) (bs : List ℕ) → lines_of bs ≡ take (end_of bs) bs ∷ lines_of (drop (suc (end_of bs)) bs)
+more_by : (t : Bool) (b e : ℕ) (bs : List ℕ) → lines_of bs ≡ take e bs ∷ lines_of (drop (suc e) bs)
     → cond t ([] ∷ lines_of bs) (onto b (lines_of bs))
-    ≡ take (cond t 0 (suc (end_of bs))) (b ∷ bs) ∷ lines_of (drop (suc (cond t 0 (suc (end_of bs)))) (b ∷ bs))
-more_by true b bs h = refl
-more_by false b bs h = ap (onto b) h
+    ≡ take (cond (not t) (1 + e) 0) (b ∷ bs) ∷ lines_of (drop (suc (cond (not t) (1 + e) 0)) (b ∷ bs))
+more_by true b e bs h = refl
+more_by false b e bs h =
+    let more : suc e ≡ 1 + e = omega arith in
+    ap (onto b) h ∙ ap (λ n. take n (b ∷ bs) ∷ lines_of (drop n bs)) more
 
-split_first : (b : ℕ) (bs : List ℕ) → lines_of (b ∷ bs) ≡ take (end_of (b ∷ bs)) (b ∷ bs) ∷ lines_of (drop (suc (end_of (b ∷ bs))) (b ∷ bs))
-unfolding lines_of end_of
+split_first : (b : ℕ) (bs : List ℕ) → lines_of (b ∷ bs) ≡ before_first is_end (b ∷ bs) ∷ lines_of (drop (suc (position_or_len is_end (b ∷ bs))) (b ∷ bs))
+unfolding lines_of
 split_first b [] = last_by (eqb b 10) b
-split_first b (c ∷ cs) = more_by (eqb b 10) b (c ∷ cs) (split_first c cs)
+split_first b (c ∷ cs) = more_by (eqb b 10) b (position_or_len is_end (c ∷ cs)) (c ∷ cs) (split_first c cs)
 
--- the first line, and the lines behind its end
-pub first_line : (bytes : List ℕ) → 0 < length bytes → lines_of bytes ≡ take (end_of bytes) bytes ∷ lines_of (drop (end_of bytes + 1) bytes)
-first_line [] h = absurd (omega arith)
-first_line (b ∷ bs) h = rw add-one (split_first b bs)
-
--- cut at its end, and the end taken off what is behind
-pub first_cut : (bytes line behind rest : List ℕ) (k : ℕ) → k ≡ end_of bytes → line ≡ take k bytes → behind ≡ drop k bytes → rest ≡ drop 1 behind
-    → 0 < length bytes → lines_of bytes ≡ line ∷ lines_of rest
-first_cut bytes line behind rest k e l b r h =
-    let t : rest ≡ drop (end_of bytes + 1) bytes = r ∙ ap (drop 1) b ∙ drop-drop 1 k bytes ∙ ap (λ n. drop (n + 1) bytes) e in
-    first_line bytes h ∙ ap (λ n. take n bytes ∷ lines_of (drop (end_of bytes + 1) bytes)) (sym e)
-    ∙ ap (λ xs. xs ∷ lines_of (drop (end_of bytes + 1) bytes)) (sym l) ∙ ap (λ xs. line ∷ lines_of xs) (sym t)
-
-pub rest_shorter : (bytes behind rest : List ℕ) (k : ℕ) → behind ≡ drop k bytes → rest ≡ drop 1 behind → 0 < length bytes → length rest < length bytes
-rest_shorter bytes behind rest k b r h = omega (arith, ap length b, ap length r, length-drop k bytes, length-drop 1 behind)
+-- the first line stands before the first end, and the others behind it
+pub first_cut : (bytes : List ℕ) (end : ℕ) → position_or_len is_end bytes ≡ end → 0 < length bytes → lines_of bytes ≡ take end bytes ∷ lines_of (drop (end + 1) bytes)
+first_cut [] end e h = absurd (omega arith)
+first_cut (b ∷ bs) end e h = rw add-one (split_first b bs ∙ ap (λ n. take n (b ∷ bs) ∷ lines_of (drop (suc n) (b ∷ bs))) e)
 
 pub no_lines : (bytes : List ℕ) → true ≡ eqb (length bytes) 0 → lines_of bytes ≡ []
 unfolding lines_of

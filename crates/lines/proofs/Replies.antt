@@ -1,5 +1,5 @@
 -- The text of a reply: how long it is, that it is one line, and that it says what the shop answered.
-use Rattle.std.proofs.Common.{◌≡◌, ℕ, ◌<◌, ◌≤◌, Bool, true, not, ◌&&◌, eqb, List, [], ◌∷◌, ◌++◌, map, length, Some, None, codes, decimal, Option, refl, ap, ◌∙◌, arith}
+use Rattle.std.proofs.Common.{◌≡◌, ℕ, ◌<◌, ◌≤◌, Bool, true, not, ◌&&◌, eqb, List, [], ◌∷◌, ◌++◌, map, length, Some, None, Ok, Err, codes, decimal, Option, refl, ap, ◌∙◌, arith}
 use Rattle.std.specs.Char.{is_ascii_digit}
 use Rattle.std.specs.List.{flat_map, AllByRecursion}
 use Rattle.std.specs.Str.{all_ascii_digits}
@@ -13,16 +13,13 @@ use Rattle.book.specs.declared.refusal.Refusal.TheVariants.{CountOutOfRange, NoS
 use Rattle.index.specs.declared.fault.IndexFault.TheVariants.{WorkTooShort, TooMuchSurplus}
 use Rattle.holds.specs.declared.fault.HoldFault.TheVariants.{OnHold, SheetFull, NotOnHold, AnothersHold}
 use Rattle.history.specs.declared.fault.ShopFault.TheVariants.{Book, Index, Hold, Stale}
-use Rattle.history.specs.declared.answer.Answer.{Answer}
-use Rattle.history.specs.declared.answer.Answer.TheVariants.{Done as AnswerDone, Carve as AnswerCarve, Stop as AnswerStop, Refused as AnswerRefused}
-use Rattle.history.specs.Answers.{told as answer_told}
+use Rattle.history.specs.declared.answer.Outcome.TheVariants.{Done, Carve, Stop}
+use Rattle.history.specs.Answers.{Answer, told as answer_told}
 use Rattle.lines.specs.declared.fault.LineFault.{LineFault}
 use Rattle.lines.specs.declared.fault.LineFault.TheVariants.{OutputTooShort, NoForm, Shop}
-use Rattle.lines.specs.declared.reply.Reply.{Reply}
-use Rattle.lines.specs.declared.reply.Reply.TheVariants.{Done, Carve, Stop, Refused}
 use Rattle.lines.specs.Faults.{number}
 use Rattle.lines.specs.Lines.{lines_of, Clear, ended}
-use Rattle.lines.specs.Replies.{reply_line, reply_text, reply_of, Nameable, told, Replied}
+use Rattle.lines.specs.Replies.{Reply, reply_line, reply_text, reply_of, Nameable, told, Replied}
 use Rattle.lines.proofs.Lines.{lines_ended}
 
 -- the numbers end at 18
@@ -48,10 +45,10 @@ numbered_short word n h s = omega (arith, length_push (word ++ decimal n) 10, le
 
 -- the text of a reply has at most 16 bytes
 pub reply_short : (r : Reply) → Nameable r → length (reply_text r) ≤ 16
-reply_short Done h = omega arith
-reply_short Carve h = omega arith
-reply_short (Stop s) h = numbered_short (codes "stop ") s.model (omega arith) (h s.model refl)
-reply_short (Refused f) h = numbered_short (codes "no ") (number f) (omega arith) (omega (arith, few f))
+reply_short (Ok Done) h = omega arith
+reply_short (Ok Carve) h = omega arith
+reply_short (Ok (Stop s)) h = numbered_short (codes "stop ") s.model (omega arith) (h s.model refl)
+reply_short (Err f) h = numbered_short (codes "no ") (number f) (omega arith) (omega (arith, few f))
 
 clear_digits : (ds : List ℕ) → all_ascii_digits ds ≡ true → Clear ds
 clear_digits [] h = tt
@@ -79,10 +76,10 @@ clear_number n h = clear_digits (decimal n) (digits_decimal own n (omega arith))
 
 -- a reply is one line
 pub reply_clear : (r : Reply) → Nameable r → Clear (reply_line r)
-reply_clear Done h = clear_word (codes "ok") refl
-reply_clear Carve h = clear_word (codes "carve") refl
-reply_clear (Stop s) h = clear_append (codes "stop ") (decimal s.model) (clear_word (codes "stop ") refl) (clear_number s.model (h s.model refl))
-reply_clear (Refused f) h = clear_append (codes "no ") (decimal (number f)) (clear_word (codes "no ") refl) (clear_number (number f) (omega (arith, few f)))
+reply_clear (Ok Done) h = clear_word (codes "ok") refl
+reply_clear (Ok Carve) h = clear_word (codes "carve") refl
+reply_clear (Ok (Stop s)) h = clear_append (codes "stop ") (decimal s.model) (clear_word (codes "stop ") refl) (clear_number s.model (h s.model refl))
+reply_clear (Err f) h = clear_append (codes "no ") (decimal (number f)) (clear_word (codes "no ") refl) (clear_number (number f) (omega (arith, few f)))
 
 joined_ended : (rs : List Reply) → flat_map reply_text rs ≡ flat_map ended (map reply_line rs)
 joined_ended [] = refl
@@ -98,10 +95,10 @@ replies_lines rs h = ap lines_of (joined_ended rs) ∙ lines_ended (map reply_li
 
 -- a reply stands for what the answer stands for that it was made of
 pub told_same : (a : Answer) → told (reply_of a) ≡ answer_told a
-told_same AnswerDone = refl
-told_same AnswerCarve = refl
-told_same (AnswerStop s) = refl
-told_same (AnswerRefused f) = refl
+told_same (Ok Done) = refl
+told_same (Ok Carve) = refl
+told_same (Ok (Stop s)) = refl
+told_same (Err f) = refl
 
 -- a short line written with room for 16 bytes is written whole
 pub wrote_replied : (line out : List ℕ) (o : Option ℕ) (after : List ℕ) → length line ≤ 16 → 16 ≤ length out → Wrote out 0 line o after → Replied line out o after

@@ -1,5 +1,6 @@
 -- A line is the text of one form alone.
-use Rattle.std.proofs.Common.{◌≡◌, ℕ, ◌<◌, true, false, cond, eqb, ◌↔◌, List, [], ◌∷◌, ◌++◌, length, get_or, Some, None, decimal, Option, sym, refl, ap, ◌∙◌, arith, MatchOption}
+use Rattle.std.proofs.Common.{◌≡◌, ℕ, ◌<◌, Bool, true, false, cond, eqb, ◌↔◌, List, [], ◌∷◌, ◌++◌, length, get_or, Some, None, decimal, Option, sym, refl, ap, ◌∙◌, arith, MatchOption}
+use Rattle.std.specs.Bool.{then_some}
 use Rattle.std.proofs.lemmas.Bool.{eqb-true, eqb-false}
 use Rattle.std.proofs.lemmas.List.{append_cancel_left, nil_from_length}
 use Rattle.text.specs.Numerals.{digit_first, Begins, NoNumeral}
@@ -7,7 +8,7 @@ use Rattle.text.proofs.Fronts.{begins_same}
 use Rattle.lines.specs.declared.form.Form.{Form}
 use Rattle.lines.specs.declared.form.Form.TheVariants.{Enter, Strike, Index, Hold, Release, Order}
 use Rattle.lines.specs.Forms.{letter_of, numbers_of, Small}
-use Rattle.lines.specs.Texts.{listed, text, Parsed, Spaced, NoNext}
+use Rattle.lines.specs.Texts.{spaced, listed, text, Parsed, Spaced, NoNext, NoOne, NoTwo}
 
 pub listed_ends : (ns : List ℕ) → digit_first (listed ns) ≡ false
 listed_ends [] = refl
@@ -27,6 +28,22 @@ spaced_same bytes u v r s a b =
     let q : Begins (decimal u ++ r) v s = record { small = b.small; whole = t; ends = b.ends } in
     let e : u ≡ v = begins_same (decimal u ++ r) u v r s p q in
     (e, append_cancel_left (decimal u) r s (t ∙ ap (λ n. decimal n ++ s) (sym e)))
+
+-- bytes that go on behind a spaced number are not one
+pub not_alone : (bytes : List ℕ) (u : ℕ) (rest : List ℕ) → Spaced bytes u rest → (rest ≡ [] → ⊥) → NoOne bytes
+not_alone bytes u rest s n v h e = n (spaced_same bytes u v rest [] s (record { small = h; whole = e; ends = refl })).1
+
+-- and where one is behind it and no other, they are not two
+pub no_second : (bytes : List ℕ) (u : ℕ) (rest : List ℕ) → Spaced bytes u rest → NoOne rest → NoTwo bytes
+no_second bytes u rest s n v w h k e = n w k (spaced_same bytes u v rest (listed (w ∷ [])) s (record { small = h; whole = e; ends = refl })).1
+
+alone_by : (t : Bool) (bytes : List ℕ) (u : ℕ) (rest : List ℕ) → eqb (length rest) 0 ≡ t → Spaced bytes u rest → MatchOption (then_some t u) (NoOne bytes) (λ v. bytes ≡ listed (v ∷ []))
+alone_by true bytes u rest e s = s.whole ∙ ap (λ xs. spaced u ++ xs) (nil_from_length rest (eqb-true (length rest) 0 e))
+alone_by false bytes u rest e s = not_alone bytes u rest s (λ z. eqb-false (length rest) 0 e (ap length z))
+
+-- a spaced number with nothing behind it, or none
+pub alone : (bytes : List ℕ) (u : ℕ) (rest : List ℕ) → Spaced bytes u rest → MatchOption (then_some (eqb (length rest) 0) u) (NoOne bytes) (λ v. bytes ≡ listed (v ∷ []))
+alone bytes u rest s = alone_by (eqb (length rest) 0) bytes u rest refl s
 
 pub listed_spaced : (n : ℕ) (ns : List ℕ) → n < 65536 → Spaced (listed (n ∷ ns)) n (listed ns)
 listed_spaced n ns h = record { small = h; whole = refl; ends = listed_ends ns }
@@ -75,12 +92,6 @@ parsed_heard line (Some d) h c f e = ap Some (text_same d c h.0 f (sym h.1 ∙ e
 pub parsed_exactly : (line : List ℕ) (r : Option Form) → Parsed line r → (f : Form) → Small (numbers_of f) → (r ≡ Some f) ↔ (line ≡ text f)
 parsed_exactly line None h f s = (λ e. absurd (let z : ◌≡◌ {A = ℕ} 0 1 = cc in omega arith), λ e. absurd (h f s e))
 parsed_exactly line (Some d) h f s = (λ e. let t : d ≡ f = cc in h.1 ∙ ap text t, λ e. parsed_heard line (Some d) h f s e)
-
-pub nil_from_empty : (xs : List ℕ) → true ≡ eqb (length xs) 0 → xs ≡ []
-nil_from_empty xs e = nil_from_length xs (eqb-true (length xs) 0 (sym e))
-
-pub some_from_full : (xs : List ℕ) → false ≡ eqb (length xs) 0 → xs ≡ [] → ⊥
-some_from_full xs e z = eqb-false (length xs) 0 (sym e) (ap length z)
 
 -- the space taken off the front
 pub next_cases : {R : Type 0} (view : R → List ℕ) (bytes more : List ℕ) (r : Option (ℕ × R)) → bytes ≡ 32 ∷ more

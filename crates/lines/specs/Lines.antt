@@ -1,5 +1,5 @@
 -- The lines of a file: what stands before, between and behind its bytes 0A, with nothing behind the last.
-use Rattle.std.specs.Prelude.{ℕ, suc, cond, List, [], ◌∷◌, ◌++◌, ◌==◌, ◌≢◌}
+use Rattle.std.specs.Prelude.{ℕ, cond, List, [], ◌∷◌, ◌++◌, ◌==◌, ◌≢◌}
 use Rattle.std.specs.List.{AllByRecursion}
 
 -- a byte put before the first line
@@ -10,11 +10,6 @@ onto b (l ∷ ls) = (b ∷ l) ∷ ls
 unfoldable pub lines_of : List ℕ → List (List ℕ)
 lines_of [] = []
 lines_of (b ∷ bs) = cond (b == 10) ([] ∷ lines_of bs) (onto b (lines_of bs))
-
--- where the first line ends
-unfoldable pub end_of : List ℕ → ℕ
-end_of [] = 0
-end_of (b ∷ bs) = cond (b == 10) 0 (suc (end_of bs))
 
 -- lines with a 0A between each two
 abbrev pub between : List (List ℕ) → List ℕ

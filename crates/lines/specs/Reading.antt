@@ -35,3 +35,8 @@ abbrev pub ReadOn : Lines → Option Line → Lines → Type 0
 ReadOn before (Some l) after = (file : List ℕ) (k : ℕ) → Reads file k before
     → (k < length (lines_of file)) × (line_bytes l ≡ slice_index_or (lines_of file) k []) × (line_place l ≡ k + 1) × Reads file (k + 1) after
 ReadOn before None after = (file : List ℕ) (k : ℕ) → Reads file k before → k ≡ length (lines_of file)
+
+-- what the reader gives: both
+pub record Gives (before : Lines) (line : Option Line) (after : Lines) : Type 0 where
+  pub left : Steps before line after
+  pub reads : ReadOn before line after

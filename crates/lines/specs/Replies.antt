@@ -1,23 +1,26 @@
 -- The replies to a line: their texts, what they stand for, and what writing one comes to.
-use Rattle.std.specs.Prelude.{◌≡◌, ℕ, ◌<◌, ◌≤◌, Bool, true, false, List, ◌++◌, length, Some, None, codes, decimal, Option}
+use Rattle.std.specs.Prelude.{◌≡◌, ℕ, ◌<◌, ◌≤◌, Bool, true, false, List, ◌++◌, length, Some, None, Ok, Err, codes, decimal, Option, Result}
 use Rattle.std.specs.Option.{option_map}
+use Rattle.std.specs.Result.{result_err}
 use Rattle.text.specs.Placing.{placed}
-use Rattle.history.specs.Answers.{Told}
-use Rattle.history.specs.declared.answer.Answer.{Answer}
-use Rattle.history.specs.declared.answer.Answer.TheVariants.{Done as AnswerDone, Carve as AnswerCarve, Stop as AnswerStop, Refused as AnswerRefused}
+use Rattle.history.specs.Answers.{Answer, Told}
+use Rattle.history.specs.declared.answer.Outcome.{Outcome}
+use Rattle.history.specs.declared.answer.Outcome.TheVariants.{Done, Carve, Stop}
 use Rattle.lines.specs.declared.fault.LineFault.{LineFault}
 use Rattle.lines.specs.declared.fault.LineFault.TheVariants.{Shop}
-use Rattle.lines.specs.declared.reply.Reply.{Reply}
-use Rattle.lines.specs.declared.reply.Reply.TheVariants.{Done, Carve, Stop, Refused}
 use Rattle.lines.specs.Faults.{number, values}
 use Rattle.lines.specs.Lines.{ended}
 
+-- the reply to a line: what its call comes to, or the fault that the line is refused with
+abbrev pub Reply : Type 0
+Reply = Result Outcome LineFault
+
 -- the line of a reply
 abbrev pub reply_line : Reply → List ℕ
-reply_line Done = codes "ok"
-reply_line Carve = codes "carve"
-reply_line (Stop s) = codes "stop " ++ decimal s.model
-reply_line (Refused f) = codes "no " ++ decimal (number f)
+reply_line (Ok Done) = codes "ok"
+reply_line (Ok Carve) = codes "carve"
+reply_line (Ok (Stop s)) = codes "stop " ++ decimal s.model
+reply_line (Err f) = codes "no " ++ decimal (number f)
 
 -- the line with its end
 abbrev pub reply_text : Reply → List ℕ
@@ -25,31 +28,26 @@ reply_text r = ended (reply_line r)
 
 -- the reply that an answer of a shop comes to
 abbrev pub reply_of : Answer → Reply
-reply_of AnswerDone = Done
-reply_of AnswerCarve = Carve
-reply_of (AnswerStop s) = Stop s
-reply_of (AnswerRefused f) = Refused (Shop f)
+reply_of (Ok o) = Ok o
+reply_of (Err f) = Err (Shop f)
 
 -- the fault of a refused line
 abbrev pub refused : Reply → Option LineFault
-refused Done = None
-refused Carve = None
-refused (Stop s) = None
-refused (Refused f) = Some f
+refused r = result_err r
 
 -- whether the reply is carve
 abbrev pub carved : Reply → Bool
-carved Done = false
-carved Carve = true
-carved (Stop s) = false
-carved (Refused f) = false
+carved (Ok Done) = false
+carved (Ok Carve) = true
+carved (Ok (Stop s)) = false
+carved (Err f) = false
 
 -- the model that a stop names
 abbrev pub named : Reply → Option ℕ
-named Done = None
-named Carve = None
-named (Stop s) = Some s.model
-named (Refused f) = None
+named (Ok Done) = None
+named (Ok Carve) = None
+named (Ok (Stop s)) = Some s.model
+named (Err f) = None
 
 -- what a fault brings, if there is one
 abbrev pub brought : Option LineFault → Option (ℕ × ℕ)

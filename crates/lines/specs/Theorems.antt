@@ -1,11 +1,9 @@
 -- Theorems on lines: of a file, and of replies.
 use Rattle.std.specs.Prelude.{◌≡◌, ℕ, List, ◌++◌, map}
 use Rattle.std.specs.List.{flat_map, AllByRecursion}
-use Rattle.history.specs.declared.answer.Answer.{Answer}
-use Rattle.history.specs.Answers.{told as answer_told}
-use Rattle.lines.specs.declared.reply.Reply.{Reply}
+use Rattle.history.specs.Answers.{Answer, told as answer_told}
 use Rattle.lines.specs.Lines.{lines_of, between, last_end, Clear, ended}
-use Rattle.lines.specs.Replies.{reply_line, reply_text, reply_of, Nameable, told}
+use Rattle.lines.specs.Replies.{Reply, reply_line, reply_text, reply_of, Nameable, told}
 
 -- with 0A between them the lines are the file, less the 0A that it ends with
 abbrev pub LinesMakeTheFile : Type 0

@@ -6,7 +6,7 @@ ghost use Rattle.lines.specs.declared.fault.LineFault.TheVariants.{Shop as OfSho
 use history::fault::ShopFault;
 
 /// The buffer for the answer is too short; the line has no form; or the fault of the shop, whole.
-#[derive(Clone, Copy)]
+#[derive(Clone, Copy, Debug, PartialEq, Eq)]
 pub enum LineFault {
     OutputTooShort,
     NoForm,
@@ -14,7 +14,7 @@ pub enum LineFault {
 }
 
 /// Where a fault comes from.
-#[derive(Clone, Copy)]
+#[derive(Clone, Copy, Debug, PartialEq, Eq)]
 pub enum Layer {
     Line,
     Index,
@@ -38,14 +38,11 @@ impl LineFault {
         ensures { result ≡ layer self }
     {
         match self {
-            LineFault::OutputTooShort => Layer::Line,
-            LineFault::NoForm => Layer::Line,
-            LineFault::Shop(fault) => match fault {
-                ShopFault::Book(_) => Layer::Shop,
-                ShopFault::Index(_) => Layer::Index,
-                ShopFault::Hold(_) => Layer::Shop,
-                ShopFault::Stale => Layer::Shop,
-            },
+            LineFault::OutputTooShort | LineFault::NoForm => Layer::Line,
+            LineFault::Shop(ShopFault::Index(_)) => Layer::Index,
+            LineFault::Shop(ShopFault::Book(_) | ShopFault::Hold(_) | ShopFault::Stale) => {
+                Layer::Shop
+            }
         }
     }
 }

@@ -6,7 +6,7 @@ use book::derivation::Derivation;
 use history::call::Call;
 
 /// A call with its numbers, and no work space: that is not written in a line.
-#[derive(Clone, Copy)]
+#[derive(Clone, Copy, Debug, PartialEq, Eq)]
 pub enum Form {
     Enter(Derivation),
     Strike(Derivation),

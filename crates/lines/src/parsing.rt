@@ -23,23 +23,17 @@ fn next_number(bytes: &[u8]) -> Option<(u16, &[u8])>
 fn one_number(bytes: &[u8]) -> Option<u16>
     ensures { MatchOption result (NoOne bytes.now) (λ v. bytes.now ≡ listed (v ∷ [])) }
 {
-    match next_number(bytes) {
-        Some((v, rest)) => { if rest.is_empty() { Some(v) } else { None } }
-        None => None,
-    }
+    let (v, rest) = next_number(bytes)?;
+    rest.is_empty().then_some(v)
 }
 
 // Two numbers, each behind a space, and nothing else.
 fn two_numbers(bytes: &[u8]) -> Option<(u16, u16)>
     ensures { MatchOption result (NoTwo bytes.now) (λ p. bytes.now ≡ listed (p.0 ∷ (p.1 ∷ []))) }
 {
-    match next_number(bytes) {
-        Some((u, rest)) => match one_number(rest) {
-            Some(v) => Some((u, v)),
-            None => None,
-        },
-        None => None,
-    }
+    let (u, rest) = next_number(bytes)?;
+    let v = one_number(rest)?;
+    Some((u, v))
 }
 
 // What a letter says, and the bytes behind it.
@@ -47,33 +41,12 @@ fn form(letter: u8, rest: &[u8]) -> Option<Form>
     ensures { Parsed (letter ∷ rest.now) result }
 {
     match letter as char {
-        'E' => match two_numbers(rest) {
-            Some((from, to)) => Some(Form::Enter(Derivation { from, to })),
-            None => None,
-        },
-        'S' => match two_numbers(rest) {
-            Some((from, to)) => Some(Form::Strike(Derivation { from, to })),
-            None => None,
-        },
-        'I' => {
-            if rest.is_empty() {
-                Some(Form::Index)
-            } else {
-                None
-            }
-        }
-        'H' => match two_numbers(rest) {
-            Some((model, holder)) => Some(Form::Hold { model, holder }),
-            None => None,
-        },
-        'R' => match two_numbers(rest) {
-            Some((model, holder)) => Some(Form::Release { model, holder }),
-            None => None,
-        },
-        'C' => match one_number(rest) {
-            Some(model) => Some(Form::Order { model }),
-            None => None,
-        },
+        'E' => two_numbers(rest).map(|(from, to)| Form::Enter(Derivation { from, to })),
+        'S' => two_numbers(rest).map(|(from, to)| Form::Strike(Derivation { from, to })),
+        'I' => rest.is_empty().then_some(Form::Index),
+        'H' => two_numbers(rest).map(|(model, holder)| Form::Hold { model, holder }),
+        'R' => two_numbers(rest).map(|(model, holder)| Form::Release { model, holder }),
+        'C' => one_number(rest).map(|model| Form::Order { model }),
         _ => None,
     }
 }
@@ -84,8 +57,6 @@ pub fn parse(line: &[u8]) -> Option<Form>
     ensures exactly { (f : Form) → Small (numbers_of f) → (result ≡ Some f) ↔ (line.now ≡ text f) }
     ensures computed { result ≡ form_of line.now }
 {
-    match line {
-        [letter, rest @ ..] => form(*letter, rest),
-        _ => None,
-    }
+    let (letter, rest) = line.split_first()?;
+    form(*letter, rest)
 }

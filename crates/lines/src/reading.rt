@@ -7,7 +7,7 @@ mod splitting;
 pub mod stepping;
 
 /// A line without its end, and its place in the file, from 1.
-#[derive(Clone, Copy)]
+#[derive(Clone, Copy, Debug, PartialEq, Eq)]
 pub struct Line<'a> {
     bytes: &'a [u8],
     place: usize,

@@ -3,29 +3,17 @@ ghost use Rattle.std.specs.Prelude.{◌≡◌};
 ghost use Rattle.lines.specs.Replies.{reply_text, reply_of, Replied};
 
 use crate::fault::LineFault;
-use history::answer::{Answer, Named};
+use history::answer::{Answer, Outcome};
 use text::writing::{write_bytes, write_numbered};
 
-/// What a line is answered: what its call is, or that the line was refused.
-#[derive(Clone, Copy)]
-pub enum Reply {
-    Done,
-    Carve,
-    Stop(Named),
-    Refused(LineFault),
-}
+/// What a line is answered: what its call comes to, or the fault that the line is refused with.
+pub type Reply = Result<Outcome, LineFault>;
 
-impl From<Answer> for Reply {
-    ghost from_gives = { λ a r. r ≡ reply_of a };
-
-    fn from(answer: Answer) -> Reply {
-        match answer {
-            Answer::Done => Reply::Done,
-            Answer::Carve => Reply::Carve,
-            Answer::Stop(stop) => Reply::Stop(stop),
-            Answer::Refused(fault) => Reply::Refused(LineFault::Shop(fault)),
-        }
-    }
+/// The reply that an answer of a shop comes to.
+pub fn reply_of(answer: Answer) -> Reply
+    ensures { result ≡ reply_of answer }
+{
+    answer.map_err(LineFault::from)
 }
 
 /// Writes the line of a reply to the front of `out`, and tells how long it is. A buffer of under 16 bytes stays as it is.
@@ -36,9 +24,9 @@ pub fn write_reply(out: &mut [u8], reply: Reply) -> Option<usize>
         return None;
     }
     match reply {
-        Reply::Done => write_bytes(out, 0, b"ok\n"),
-        Reply::Carve => write_bytes(out, 0, b"carve\n"),
-        Reply::Stop(stop) => write_numbered(out, b"stop ", stop.model),
-        Reply::Refused(fault) => write_numbered(out, b"no ", fault.number() as u16),
+        Ok(Outcome::Done) => write_bytes(out, 0, b"ok\n"),
+        Ok(Outcome::Carve) => write_bytes(out, 0, b"carve\n"),
+        Ok(Outcome::Stop(stop)) => write_numbered(out, b"stop ", stop.model),
+        Err(fault) => write_numbered(out, b"no ", fault.number() as u16),
     }
 }

@@ -1,5 +1,5 @@
 //! The reader of the lines of a file.
-ghost use Rattle.lines.specs.Reading.{Reads, Steps, ReadOn};
+ghost use Rattle.lines.specs.Reading.{Reads};
 
 use crate::reading::splitting::first_line;
 use crate::reading::{Line, Lines};
@@ -14,12 +14,19 @@ impl<'a> Lines<'a> {
             place: 0,
         }
     }
+}
 
-    /// The next line, if there is one more.
-    pub fn next(&mut self) -> Option<Line<'a>>
-        ensures left { Steps self.old result self.new }
-        ensures reads { ReadOn self.old result self.new }
-    {
+impl<'a> Iterator for Lines<'a> {
+    ghost use Rattle.std.specs.Iterator.{item_count};
+    ghost use Rattle.lines.specs.Reading.{lines_left, Gives};
+
+    type Item = Line<'a>;
+
+    ghost next_gives = { Gives };
+
+    ghost remaining = { item_count lines_left };
+
+    fn next(&mut self) -> Option<Line<'a>> {
         if self.rest.is_empty() {
             return None;
         }

@@ -1,30 +1,21 @@
-use Rattle.std.proofs.Common.{◌≡◌, ◌-◌, ◌<◌, length, take, drop, sym, ◌∙◌, arith}
-use Rattle.std.proofs.lemmas.List.{drop_all, take_rest, nil_from_length}
-use Rattle.std.proofs.lemmas.Bool.{ltb-true}
-use Rattle.lines.proofs.Lines.{end_within, first_cut, rest_shorter}
+use Rattle.std.proofs.Common.{◌+◌, ◌∷◌, length, take, drop, sym, ap, ◌∙◌, arith, rules, take_all}
+use Rattle.std.proofs.lemmas.List.Sums.{position_or_len_is}
+use Rattle.std.proofs.lemmas.List.{take_rest, drop_all}
+use Rattle.lines.specs.Lines.{lines_of}
+use Rattle.lines.proofs.Lines.{is_end, first_cut}
 use Rattle.lines.proofs.reading.splitting.first_line.Goals as goal
 
-pub split_at-requires : goal.split_at-requires
-split_at-requires c = omega (arith, c.line_end.ensures, end_within c.args.bytes.now)
+pub returns-in-Some-clause-first : goal.returns-in-Some-clause-first
+returns-in-Some-clause-first c = λ h.
+    let bytes = c.args.bytes.now in
+    let end = c.in-Some.end in
+    first_cut bytes end (position_or_len_is is_end bytes end 0 (search rules) (search rules) (search rules)) h
+    ∙ ap (λ xs. take end bytes ∷ lines_of xs) (sym (take_rest bytes (end + 1)))
 
-pub returns-in_default : goal.returns-in_default
-returns-in_default c =
-    let xs = c.args.bytes.now in
-    let behind = c.split_at.result.1.now in
-    let z : length behind < 1 = omega (arith, ltb-true) in
-    let r : behind ≡ drop 1 behind = nil_from_length behind (omega arith) ∙ sym (drop_all 1 behind (omega arith)) in
-    record {
-      first = first_cut xs _ behind behind c.line_end.result c.line_end.ensures c.split_at.ensures.front c.split_at.ensures.back r;
-      shorter = rest_shorter xs behind behind c.line_end.result c.split_at.ensures.back r;
-    }
-
-pub returns-in-len1-up : goal.returns-in-len1-up
-returns-in-len1-up c =
-    let xs = c.args.bytes.now in
-    let behind = c.split_at.result.1.now in
-    let rest = take (length behind - 1) (drop 1 behind) in
-    let r : rest ≡ drop 1 behind = take_rest behind 1 in
-    record {
-      first = first_cut xs _ behind rest c.line_end.result c.line_end.ensures c.split_at.ensures.front c.split_at.ensures.back r;
-      shorter = rest_shorter xs behind rest c.line_end.result c.split_at.ensures.back r;
-    }
+pub returns-in-None-clause-first : goal.returns-in-None-clause-first
+returns-in-None-clause-first c = λ h.
+    let bytes = c.args.bytes.now in
+    let n = length bytes in
+    first_cut bytes n (position_or_len_is is_end bytes n 0 (omega arith) (search rules) (search rules)) h
+    ∙ ap (λ xs. xs ∷ lines_of (drop (n + 1) bytes)) (take_all n bytes (omega arith))
+    ∙ ap (λ xs. bytes ∷ lines_of xs) (drop_all (n + 1) bytes (omega arith))
