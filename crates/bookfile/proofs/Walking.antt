@@ -1,6 +1,6 @@
 -- The walk over the two arrays, two bytes of each at a time.
-use Rattle.std.proofs.Common.{◌≡◌, ℕ, zero, suc, ◌+◌, ◌*◌, ◌/◌, ◌%◌, ◌<◌, ◌≤◌, List, [], ◌∷◌, ◌++◌, length, get_or, take, drop, w16, Some, None, Option, MatchOption, sym, refl, ap, ◌∙◌, arith}
-use Rattle.std.proofs.lemmas.List.{length-drop, get_or-drop}
+use Rattle.std.proofs.Common.{◌≡◌, ℕ, zero, suc, ◌+◌, ◌-◌, ◌*◌, ◌/◌, ◌%◌, ◌<◌, ◌≤◌, List, [], ◌∷◌, ◌++◌, length, get_or, take, drop, w16, Some, None, Option, MatchOption, sym, refl, ap, ◌∙◌, arith}
+use Rattle.std.proofs.lemmas.List.{take_all, length-drop, get_or-drop}
 use Rattle.std.proofs.lemmas.Option.{slice_get_past, slice_get-get_or}
 use Rattle.std.specs.List.{slice_get}
 use Rattle.std.specs.Int.{from_le_bytes}
@@ -19,6 +19,31 @@ word_front (a ∷ (b ∷ bs)) word rest n h l e f g =
     let x : a ≡ n % 256 = omega arith in
     let y : b ≡ n / 256 = omega arith in
     cc
+
+-- the two numbers of the four bytes in front
+pub sizes_front : (bytes : List ℕ) (n d : ℕ) → ((i : ℕ) → get_or bytes i 0 < 256) → 4 ≤ length bytes
+    → n ≡ get_or bytes 0 0 + get_or bytes 1 0 * 256 → d ≡ get_or bytes 2 0 + get_or bytes 3 0 * 256
+    → bytes ≡ words (n ∷ (d ∷ [])) ++ take (length bytes - 4) (drop 4 bytes)
+sizes_front [] n d h l e f = absurd (omega arith)
+sizes_front (a ∷ []) n d h l e f = absurd (omega arith)
+sizes_front (a ∷ (b ∷ [])) n d h l e f = absurd (omega arith)
+sizes_front (a ∷ (b ∷ (u ∷ []))) n d h l e f = absurd (omega arith)
+sizes_front (a ∷ (b ∷ (u ∷ (v ∷ rest)))) n d h l e f =
+    let la : a < 256 = h 0 in
+    let lb : b < 256 = h 1 in
+    let lu : u < 256 = h 2 in
+    let lv : v < 256 = h 3 in
+    let x : a ≡ n % 256 = omega arith in
+    let y : b ≡ n / 256 = omega arith in
+    let z : u ≡ d % 256 = omega arith in
+    let w : v ≡ d / 256 = omega arith in
+    let bytes : List ℕ = a ∷ (b ∷ (u ∷ (v ∷ rest))) in
+    let k : take (length bytes - 4) rest ≡ rest = take_all (length bytes - 4) rest (omega arith) in
+    ap (λ m. m ∷ (b ∷ (u ∷ (v ∷ rest)))) x
+    ∙ ap (λ m. n % 256 ∷ (m ∷ (u ∷ (v ∷ rest)))) y
+    ∙ ap (λ m. n % 256 ∷ (n / 256 ∷ (m ∷ (v ∷ rest)))) z
+    ∙ ap (λ m. n % 256 ∷ (n / 256 ∷ (d % 256 ∷ (m ∷ rest)))) w
+    ∙ ap (λ xs. words (n ∷ (d ∷ [])) ++ xs) (sym k)
 
 numbers_short : (xs : List ℕ) → length xs < 2 → numbers xs ≡ []
 numbers_short [] h = refl

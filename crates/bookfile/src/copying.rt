@@ -9,7 +9,7 @@ use crate::writing::write;
 use book::refusal::Refusal;
 
 /// Why a file was not copied.
-#[derive(Clone, Copy)]
+#[derive(Clone, Copy, Debug, PartialEq, Eq)]
 pub enum CopyRefusal {
     Check(FileRefusal),
     Enter(Refusal),

@@ -6,7 +6,7 @@ ghost use Rattle.bookfile.specs.Refusals.{number, write_number};
 use book::refusal::Refusal;
 
 /// Why a file is no book file.
-#[derive(Clone, Copy)]
+#[derive(Clone, Copy, Debug, PartialEq, Eq)]
 pub enum FileRefusal {
     /// What the book itself refuses: its count, a model, or a derivation from itself.
     Book(Refusal),
@@ -38,7 +38,7 @@ impl From<Refusal> for FileRefusal {
 }
 
 /// Why a book file is not written.
-#[derive(Clone, Copy)]
+#[derive(Clone, Copy, Debug, PartialEq, Eq)]
 pub enum WriteRefusal {
     TooShort = 17,
 }

@@ -8,10 +8,8 @@ ghost use Rattle.bookfile.specs.Checked.{left, Reads, Accepts, Splits};
 use crate::checked::BookFile;
 use crate::checked::derivations::Derivations;
 use crate::refusal::FileRefusal;
-use crate::words::take_word;
 use book::count::Count;
 use book::derivation::Derivation;
-use rising::key::Key;
 
 // Refuses one derivation, behind the one before it.
 fn check_place(
@@ -22,7 +20,7 @@ fn check_place(
     ensures { Answers (place_refusal (models count) before derivation) result }
 {
     derivation.check(count)?;
-    if before.is_none_or(|last| last.compare(&derivation).is_lt()) {
+    if before.is_none_or(|last| last < derivation) {
         Ok(())
     } else {
         Err(FileRefusal::NotRising)
@@ -68,7 +66,10 @@ pub fn check(bytes: &[u8]) -> Result<BookFile<'_>, FileRefusal>
     ensures accepts { Accepts bytes.now result }
     ensures reads { Reads bytes.now result }
 {
-    let (models, rest) = take_word(bytes).ok_or(FileRefusal::WrongLength)?;
-    let (len, rest) = take_word(rest).ok_or(FileRefusal::WrongLength)?;
+    let [n0, n1, d0, d1, rest @ ..] = bytes else {
+        return Err(FileRefusal::WrongLength);
+    };
+    let models = u16::from_le_bytes([*n0, *n1]);
+    let len = u16::from_le_bytes([*d0, *d1]);
     check_sizes(models, len, rest)
 }
