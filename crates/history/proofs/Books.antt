@@ -1,6 +1,6 @@
 -- The book that the events make: it rises, and has exactly what stands.
 use Rattle.std.proofs.Common.{◌≡◌, ℕ, true, false, not, ◌&&◌, ◌||◌, List, [], ◌∷◌, sym, refl, ap, ◌∙◌, subst, inl, inr, rules}
-use Rattle.std.specs.List.{ContainsAt as Has}
+use Rattle.std.specs.List.{Contains}
 use Rattle.std.proofs.lemmas.Bool.{cases_Bool, true≢false, or_cases, or_left, or_right, and_parts, and_from, not-true, not_from_false}
 use Rattle.lineage.proofs.Numbers.{same_tests}
 use Rattle.rising.specs.Order.{Order}
@@ -26,7 +26,7 @@ law = laws by_models models_order
 
 -- what a list has with one more derivation, and with one less
 module _ (ds : List Derivation) (up : rising by_models ds ≡ true) (d : Derivation) (u v : ℕ) where
-  taken : (xs : List Derivation) → Has xs (record { from = u; to = v }) → taken_from xs u v ≡ true
+  taken : (xs : List Derivation) → Contains xs (record { from = u; to = v }) → taken_from xs u v ≡ true
   taken xs h = has_taken xs (record { from = u; to = v }) h.0 h.1 h.2
 
   same : is d u v ≡ true → record { from = u; to = v } ≡ d

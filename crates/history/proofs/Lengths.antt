@@ -36,7 +36,7 @@ one_pair n d a b =
 first_once : (d : Derivation) (ds : List Derivation) → rising by_models (d ∷ ds) ≡ true → taken_from ds d.from d.to ≡ false
 first_once d ds up = refuted (taken_from ds d.from d.to) (λ t.
     let h = taken_has ds d t in
-    let l : by_models d d ≡ Less = ap (by_models d) (sym (h.2 d)) ∙ below_each_head by_models d ds (rises_from_rising by_models models_order (d ∷ ds) up) h.0 d h.1 in
+    let l : by_models d d ≡ Less = ap (by_models d) (sym h.2) ∙ below_each_head by_models d ds (rises_from_rising by_models models_order (d ∷ ds) up) h.0 d h.1 in
     let e = models_order.itself d in cc)
 
 first_apart : (d : Derivation) (ds : List Derivation) (u v : ℕ) → rising by_models (d ∷ ds) ≡ true → is d u v ≡ true → taken_from ds u v ≡ true → ⊥

@@ -1,12 +1,11 @@
 -- What the book and the sheet refuse, of the lists that the events make, is what the table says; and what an index of that book tells of held models.
-use Rattle.std.proofs.Common.{◌≡◌, ℕ, ◌<◌, Bool, true, cond, not, ◌&&◌, eqb, ltb, leb, List, is_some, Some, None, Decides, Option, sym, refl, ap, ◌∙◌, arith}
+use Rattle.std.proofs.Common.{◌≡◌, ℕ, ◌<◌, Bool, true, cond, not, ◌&&◌, eqb, ltb, leb, List, is_some, Some, None, Ok, Err, Decides, Option, sym, refl, ap, ◌∙◌, arith}
 use Rattle.std.specs.Option.{option_map}
 use Rattle.std.proofs.lemmas.Bool.{and_parts, and_from}
 use Rattle.std.proofs.lemmas.Bool.Decides.{nat_tests}
 use Rattle.lineage.proofs.Numbers.{same_tests}
 use Rattle.rising.specs.Lists.{rising, stands as stands_in}
-use Rattle.rising.specs.declared.lent.Added.TheVariants.{Added as Done, StandsAlready as Standing, Full}
-use Rattle.rising.specs.declared.lent.Removed.TheVariants.{Removed as Gone, NotThere}
+use Rattle.rising.specs.declared.lent.NotAdded.TheVariants.{StandsAlready as Standing, Full}
 use Rattle.rising.proofs.Keys.{standing}
 use Rattle.book.specs.declared.derivation.Derivation.{Derivation}
 use Rattle.book.specs.declared.refusal.Refusal.TheVariants.{NoSuchModel, FromItself, StandsAlready, BookFull, DoesNotStand}
@@ -46,12 +45,12 @@ found_stands es d = found_taken (book_of es) d (book_rises es) ∙ book_stands e
 -- the rows of the table, by the tests alone
 entry_row : (k e s room : Bool) →
     check (not k) (OfBook NoSuchModel) (check e (OfBook FromItself) (check s (OfBook StandsAlready) (check (not room) (OfBook BookFull) None)))
-    ≡ option_map OfBook (first (first (cond k None (Some NoSuchModel)) (cond e (Some FromItself) None)) (add_refusal (cond s Standing (cond room Done Full))))
+    ≡ option_map OfBook (first (first (cond k None (Some NoSuchModel)) (cond e (Some FromItself) None)) (add_refusal (cond s (Err Standing) (cond room (Ok tt) (Err Full)))))
 entry_row k e s room = grind arith
 
 strike_row : (k s : Bool) →
     check (not k) (OfBook NoSuchModel) (check (not s) (OfBook DoesNotStand) None)
-    ≡ option_map OfBook (first (cond k None (Some NoSuchModel)) (remove_refusal (cond s Gone NotThere)))
+    ≡ option_map OfBook (first (cond k None (Some NoSuchModel)) (remove_refusal (cond s (Ok tt) (Err (record {})))))
 strike_row k s = grind arith
 
 hold_row : (h room : Bool) → check h (OfHold OnHold) (check (not room) (OfHold SheetFull) None) ≡ option_map OfHold (cond h (Some OnHold) (cond room None (Some SheetFull)))
