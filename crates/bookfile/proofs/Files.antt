@@ -125,7 +125,7 @@ pub refused_accepts : (bytes : List ℕ) (e : FileRefusal) → file_refusal byte
 refused_accepts bytes e q n ds v w = some_none e (sym q ∙ ap file_refusal w ∙ file_accepted n ds v)
 
 pub cut_accepts : (bytes : List ℕ) (n d : ℕ) (rest : List ℕ) (r : Result BookFile FileRefusal) → Bytes bytes → bytes ≡ words (n ∷ (d ∷ [])) ++ rest → Splits n d rest r → Accepts bytes r
-cut_accepts bytes n d rest (Err e) h k j = refused_accepts bytes e (ap file_refusal k ∙ sized n d rest ∙ j)
+cut_accepts bytes n d rest (Err e) h k j = refused_accepts bytes e (cut_answers bytes n d rest (Err e) k j)
 cut_accepts bytes n d rest (Ok f) h k j =
     let P : List ℕ → Type 0 = λ bs. Bytes bs in
     let g : Bytes (words (n ∷ (d ∷ [])) ++ rest) = subst P k h in

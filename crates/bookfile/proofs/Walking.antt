@@ -1,10 +1,11 @@
 -- The walk over the two arrays, two bytes of each at a time.
-use Rattle.std.proofs.Common.{◌≡◌, ℕ, zero, suc, ◌+◌, ◌-◌, ◌*◌, ◌/◌, ◌%◌, ◌<◌, ◌≤◌, List, [], ◌∷◌, ◌++◌, length, get_or, take, drop, w16, Some, None, Option, MatchOption, sym, refl, ap, ◌∙◌, arith}
+use Rattle.std.proofs.Common.{◌≡◌, ℕ, zero, suc, ◌+◌, ◌-◌, ◌*◌, ◌/◌, ◌%◌, ◌<◌, ◌≤◌, min, List, [], ◌∷◌, ◌++◌, length, get_or, take, drop, w16, Some, None, Option, MatchOption, sym, refl, ap, ap₂, ◌∙◌, arith}
 use Rattle.std.proofs.lemmas.List.{take_all, length-drop, get_or-drop}
 use Rattle.std.proofs.lemmas.Option.{slice_get_past, slice_get-get_or}
 use Rattle.std.specs.List.{slice_get}
 use Rattle.std.specs.Int.{from_le_bytes}
 use Rattle.book.specs.declared.derivation.Derivation.{Derivation}
+use Rattle.bookfile.proofs.Arrays.{length_derivations}
 use Rattle.bookfile.specs.Files.{words, numbers, paired, derivations}
 
 -- the number of the two bytes in front
@@ -85,12 +86,25 @@ walk_drop (suc i) (a ∷ (b ∷ xs)) (c ∷ (d ∷ ys)) =
     let k : suc i * 2 ≡ suc (suc (i * 2)) = omega arith in
     ap (λ n. derivations (drop n (a ∷ (b ∷ xs))) (drop n (c ∷ (d ∷ ys)))) k ∙ walk_drop i xs ys
 
+-- behind the last place there is none
+pub none_at : (xs ys : List ℕ) (i : ℕ) → min (length xs) (length ys) ≤ i * 2 + 1 → None ≡ slice_get (derivations xs ys) i
+none_at xs ys i h = sym (slice_get_past (derivations xs ys) i (omega (arith, length_derivations xs ys)))
+
 -- what comes next past the first places is what stands at the place behind them
-pub next_at : (ds us more : List Derivation) (i : ℕ) (r : Option Derivation) → us ≡ drop i ds
-    → MatchOption r ((us ≡ []) × (more ≡ [])) (λ d. us ≡ d ∷ more) → r ≡ slice_get ds i
-next_at ds us more i None e h = let n = ap length (sym e ∙ h.0) in sym (slice_get_past ds i (omega (arith, length-drop i ds)))
-next_at ds us more i (Some d) e h =
-    let n : length (drop i ds) ≡ suc (length more) = ap length (sym e ∙ h) in
-    let z : i + 0 ≡ i = omega arith in
-    let g : get_or ds i d ≡ d = ap (λ k. get_or ds k d) (sym z) ∙ sym (get_or-drop i ds 0 d) ∙ ap (λ l. get_or l 0 d) (sym e ∙ h) in
-    sym (slice_get-get_or ds i d (omega (arith, length-drop i ds)) ∙ ap Some g)
+pub next_at : (xs ys us vs : List ℕ) (more : List Derivation) (i : ℕ) (r : Option Derivation) → us ≡ drop (i * 2) xs → vs ≡ drop (i * 2) ys
+    → MatchOption r ((derivations us vs ≡ []) × (more ≡ [])) (λ d. derivations us vs ≡ d ∷ more) → r ≡ slice_get (derivations xs ys) i
+next_at xs ys us vs more i r u v h = go r h
+  where
+    ds : List Derivation
+    ds = derivations xs ys
+
+    e : derivations us vs ≡ drop i ds
+    e = ap₂ derivations u v ∙ walk_drop i xs ys
+
+    go : (r : Option Derivation) → MatchOption r ((derivations us vs ≡ []) × (more ≡ [])) (λ d. derivations us vs ≡ d ∷ more) → r ≡ slice_get ds i
+    go None h = let n = ap length (sym e ∙ h.0) in sym (slice_get_past ds i (omega (arith, length-drop i ds)))
+    go (Some d) h =
+        let n : length (drop i ds) ≡ suc (length more) = ap length (sym e ∙ h) in
+        let z : i + 0 ≡ i = omega arith in
+        let g : get_or ds i d ≡ d = ap (λ k. get_or ds k d) (sym z) ∙ sym (get_or-drop i ds 0 d) ∙ ap (λ l. get_or l 0 d) (sym e ∙ h) in
+        sym (slice_get-get_or ds i d (omega (arith, length-drop i ds)) ∙ ap Some g)
