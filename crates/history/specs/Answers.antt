@@ -11,22 +11,22 @@ use Rattle.history.specs.Faults.{number, values}
 abbrev pub Answer : Type 0
 Answer = Result Outcome ShopFault
 
--- whether the answer is carve
-abbrev pub carved : Answer → Bool
+-- of an answer that any fault may refuse: whether it is carve
+abbrev pub carved : {E : Type 0} → Result Outcome E → Bool
 carved (Ok Done) = false
 carved (Ok Carve) = true
 carved (Ok (Stop s)) = false
 carved (Err f) = false
 
 -- the model that a stop names
-abbrev pub named : Answer → Option ℕ
+abbrev pub named : {E : Type 0} → Result Outcome E → Option ℕ
 named (Ok Done) = None
 named (Ok Carve) = None
 named (Ok (Stop s)) = Some s.model
 named (Err f) = None
 
 -- the fault of a refusal
-abbrev pub refused : Answer → Option ShopFault
+abbrev pub refused : {E : Type 0} → Result Outcome E → Option E
 refused a = result_err a
 
 -- the number and the values that an answer stands for
