@@ -7,7 +7,7 @@ use Rattle.bookfile.specs.declared.checked.BookFile.{BookFile}
 use Rattle.bookfile.specs.Files.{file}
 use Rattle.bookfile.specs.Checked.{count_shown, shown}
 use Rattle.index.specs.Meanings.{Meaning, nothing}
-use Rattle.history.specs.declared.answer.Answer.TheVariants.{Done}
+use Rattle.history.specs.declared.answer.Outcome.TheVariants.{Done}
 use Rattle.history.specs.declared.call.Call.TheVariants.{Enter}
 use Rattle.history.specs.declared.fault.ShopFault.{ShopFault}
 use Rattle.history.specs.Events.{History}
@@ -17,7 +17,7 @@ use Rattle.shop.specs.Shops.{book_in, index_in, models_in, Follows}
 
 -- the history of derivations entered in turn, none refused
 abbrev pub entries : List Derivation → History
-entries ds = reverse (map (λ d. (Enter d, Done)) ds)
+entries ds = reverse (map (λ d. (Enter d, Ok Done)) ds)
 
 -- a shop that follows the history of exactly the file's entries; of a valid file none is refused
 abbrev pub Loads : {X : Type 0} → (X → Meaning) → (X → Refuses) → BookFile → Refuses → Result (Shop X) ShopFault → Type 0

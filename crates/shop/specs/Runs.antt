@@ -2,10 +2,9 @@
 use Rattle.std.specs.Prelude.{◌≡◌, ℕ, ◌<◌, ◌≤◌, cond, List, [], ◌∷◌, ◌++◌, map, reverse, length, take, drop, Some, None, Option, ◌≢◌, nat_le}
 use Rattle.lineage.specs.Lists.{◌∈◌}
 use Rattle.index.specs.Meanings.{Meaning}
-use Rattle.history.specs.declared.answer.Answer.{Answer}
 use Rattle.history.specs.declared.call.Call.{Call}
 use Rattle.history.specs.declared.call.Call.TheVariants.{Enter, Strike, Index, Hold, Release, Order}
-use Rattle.history.specs.Answers.{told}
+use Rattle.history.specs.Answers.{Answer, told}
 use Rattle.history.specs.Events.{History}
 use Rattle.history.specs.Table.{Refuses}
 use Rattle.history.specs.Laws.{Law}

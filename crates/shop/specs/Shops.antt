@@ -10,11 +10,12 @@ use Rattle.index.specs.Meanings.{Meaning, tells, Means}
 use Rattle.holds.specs.declared.sheet.HoldSheet.{HoldSheet}
 use Rattle.holds.specs.Holds.{held as held_in}
 use Rattle.holds.specs.Sheets.{standing as Holds_on}
-use Rattle.history.specs.declared.answer.Answer.{Answer}
-use Rattle.history.specs.declared.answer.Answer.TheVariants.{Done, Carve, Stop, Refused}
+use Rattle.history.specs.declared.answer.Outcome.{Outcome}
+use Rattle.history.specs.declared.answer.Outcome.TheVariants.{Done, Carve, Stop}
 use Rattle.history.specs.declared.call.Call.{Call}
 use Rattle.history.specs.declared.fault.ShopFault.{ShopFault}
 use Rattle.history.specs.declared.fault.ShopFault.TheVariants.{Book as OfBook, Index as OfIndex, Hold as OfHold, Stale}
+use Rattle.history.specs.Answers.{Answer}
 use Rattle.history.specs.Events.{Event, History, happened}
 use Rattle.history.specs.Standing.{stands, current}
 use Rattle.history.specs.Table.{Refuses}
@@ -43,14 +44,18 @@ unknown_to s m = cond (nat_lt m (models_in s)) None (Some NoSuchModel)
 
 -- the answer that a call gives that is done or refused
 abbrev pub done : Result (Unit {0}) ShopFault → Answer
-done (Ok u) = Done
-done (Err f) = Refused f
+done (Ok u) = Ok Done
+done (Err f) = Err f
+
+-- what an order comes to, by its verdict
+abbrev pub outcome : Verdict → Outcome
+outcome Carved = Carve
+outcome (Stopped named) = Stop named
 
 -- the answer that an order gives
 abbrev pub ruled : Result Verdict ShopFault → Answer
-ruled (Ok Carved) = Carve
-ruled (Ok (Stopped named)) = Stop named
-ruled (Err f) = Refused f
+ruled (Ok v) = Ok (outcome v)
+ruled (Err f) = Err f
 
 -- a refusal changes nothing
 abbrev pub Unchanged : {X : Type 0} → Result (Unit {0}) ShopFault → Shop X → Shop X → Type 0

@@ -24,10 +24,10 @@ pub fn run<I: Index + Drop>(
 {
     let mut shop = Shop::open(count, index);
     let most = calls.len().min(answers.len());
-    for place in 0..most {
-        match shop.serve(calls[place], work) {
-            Some(answer) => answers[place] = answer,
-            None => return place,
+    for (made, call) in calls[..most].iter().enumerate() {
+        match shop.serve(*call, work) {
+            Some(answer) => answers[made] = answer,
+            None => return made,
         }
     }
     most
@@ -48,7 +48,8 @@ pub fn compare<I: Index + Drop, J: Index + Drop>(
     ensures agree { Agree result answers.new others.new }
 {
     let places = answers.len().min(others.len()).min(calls.len());
-    let made = run(count, index, &calls[0..places], work, answers);
-    run(count, other, &calls[0..places], work, others);
+    let calls = &calls[..places];
+    let made = run(count, index, calls, work, answers);
+    run(count, other, calls, work, others);
     made
 }

@@ -1,27 +1,28 @@
 //! Orders.
 ghost use Rattle.std.specs.Prelude.{◌≡◌};
 ghost use Rattle.history.specs.declared.call.Call.TheVariants as asked;
-ghost use Rattle.shop.specs.Shops.{ruled, lowered, bars_in, LowestOf, Keeps};
+ghost use Rattle.shop.specs.Shops.{outcome, ruled, bars_in, LowestOf, Keeps};
 
 use crate::running::Shop;
-use history::answer::Named;
+use history::answer::{Named, Outcome};
 use history::fault::ShopFault;
 use index::kind::Index;
 
 /// What an order comes to that is not refused.
-#[derive(Clone, Copy)]
+#[derive(Clone, Copy, Debug, PartialEq, Eq)]
 pub enum Verdict {
     Carve,
     Stop(Named),
 }
 
-// The lower of two models, if there are two.
-fn lower(best: Option<u16>, model: u16) -> Option<u16>
-    ensures { result ≡ lowered best model }
-{
-    match best {
-        None => Some(model),
-        Some(low) => { if low < model { Some(low) } else { Some(model) } }
+impl From<Verdict> for Outcome {
+    ghost from_gives = { λ v r. r ≡ outcome v };
+
+    fn from(verdict: Verdict) -> Outcome {
+        match verdict {
+            Verdict::Carve => Outcome::Carve,
+            Verdict::Stop(named) => Outcome::Stop(named),
+        }
     }
 }
 
@@ -30,13 +31,12 @@ impl<I: Index> Shop<I> {
     fn lowest(&self, model: u16) -> Option<u16>
         ensures { LowestOf (bars_in I.Index.meaning self.now model) result }
     {
-        let mut best = None;
-        for hold in self.sheet.holds() {
-            if self.index.leads(hold.model, model) {
-                best = lower(best, hold.model);
-            }
-        }
-        best
+        self.sheet
+            .holds()
+            .iter()
+            .map(|hold| hold.model)
+            .filter(|held| self.index.leads(*held, model))
+            .min()
     }
 
     /// Answers an order for a model: carve, or stop with the held model that is named.

@@ -1,53 +1,48 @@
 //! The call that takes any call.
-ghost use Rattle.std.specs.Prelude.{◌≡◌, length};
-ghost use Rattle.shop.specs.Shops.{done as done_or_refused, ruled as ruled_or_refused};
-ghost use Rattle.shop.specs.Runs.{Serves};
+ghost use Rattle.std.specs.Prelude.{◌≡◌, ◌≤◌, length};
+ghost use Rattle.shop.specs.Shops.{Keeps};
+ghost use Rattle.shop.specs.Runs.{asks_for, Serves};
 
 use crate::running::Shop;
-use crate::running::ordering::Verdict;
-use history::answer::Answer;
+use history::answer::{Answer, Outcome};
 use history::call::Call;
-use history::fault::ShopFault;
 use index::kind::Index;
 
-// The answer of a call that is done or refused.
-fn done(outcome: Result<(), ShopFault>) -> Answer
-    ensures { result ≡ done_or_refused outcome }
+// How many numbers of work space a call asks for.
+fn asked(call: Call) -> usize
+    ensures { result ≡ asks_for call }
 {
-    match outcome {
-        Ok(()) => Answer::Done,
-        Err(fault) => Answer::Refused(fault),
-    }
-}
-
-// The answer of an order.
-fn ruled(outcome: Result<Verdict, ShopFault>) -> Answer
-    ensures { result ≡ ruled_or_refused outcome }
-{
-    match outcome {
-        Ok(Verdict::Carve) => Answer::Carve,
-        Ok(Verdict::Stop(named)) => Answer::Stop(named),
-        Err(fault) => Answer::Refused(fault),
+    match call {
+        Call::Index { work } => work,
+        _ => 0,
     }
 }
 
 impl<I: Index> Shop<I> {
+    // Makes a call, of which an indexing has the work space that it asks for.
+    fn make(&mut self, call: Call, work: &mut [u16]) -> Answer
+        requires { length work.old ≡ asks_for call }
+        ensures { Keeps I.Index.meaning I.Index.refuses self.old call result self.new }
+    {
+        match call {
+            Call::Enter(derivation) => self.enter(derivation)?,
+            Call::Strike(derivation) => self.strike(derivation)?,
+            Call::Index { .. } => self.reindex(work)?,
+            Call::Hold { model, holder } => self.hold(model, holder)?,
+            Call::Release { model, holder } => self.release(model, holder)?,
+            Call::Order { model } => return Ok(self.order(model)?.into()),
+        }
+        Ok(Outcome::Done)
+    }
+
     /// Makes a call and tells its answer. None, and the shop is as it was, if the call asks for more work space than is lent.
     pub fn serve(&mut self, call: Call, work: &mut [u16]) -> Option<Answer>
         ensures { Serves I.Index.meaning I.Index.refuses self.old call (length work.old) result self.new }
     {
-        match call {
-            Call::Enter(derivation) => Some(done(self.enter(derivation))),
-            Call::Strike(derivation) => Some(done(self.strike(derivation))),
-            Call::Index { work: asked } => {
-                if asked > work.len() {
-                    return None;
-                }
-                Some(done(self.reindex(&mut work[0..asked])))
-            }
-            Call::Hold { model, holder } => Some(done(self.hold(model, holder))),
-            Call::Release { model, holder } => Some(done(self.release(model, holder))),
-            Call::Order { model } => Some(ruled(self.order(model))),
+        let asked = asked(call);
+        if asked > work.len() {
+            return None;
         }
+        Some(self.make(call, &mut work[..asked]))
     }
 }

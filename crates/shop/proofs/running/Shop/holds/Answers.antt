@@ -5,4 +5,4 @@ use Rattle.shop.proofs.Calls.{kept}
 use Rattle.shop.proofs.running.Shop.holds.Goals as goal
 
 pub returns : goal.returns
-returns g c = record { by_history = λ n owed h f. c.len.ensures ∙ ap length f.sheet ∙ sheet_length n (happened h) (kept g.I.Index.meaning g.I.Index.refuses n owed h c.args.self.now f) }
+returns g c = record { by_history = λ n owed h f. c.len.ensures ∙ ap length f.sheet ∙ sheet_length n (happened h) (kept f) }
