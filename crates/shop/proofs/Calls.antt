@@ -1,5 +1,5 @@
 -- Each call keeps the law, by what the book, the sheet and the index did.
-use Rattle.std.proofs.Common.{◌≡◌, ℕ, Bool, true, false, cond, not, ltb, List, [], ◌∷◌, ◌++◌, Some, None, Ok, Err, Decides, Option, Result, sym, refl, ap, ◌∙◌, subst, ap₂}
+use Rattle.std.proofs.Common.{◌≡◌, ℕ, Bool, true, false, cond, not, ◌&&◌, ltb, List, [], ◌∷◌, ◌++◌, Some, None, Ok, Err, Decides, Option, Result, sym, refl, ap, ◌∙◌, subst, ap₂}
 use Rattle.std.specs.Option.{option_map}
 use Rattle.std.proofs.lemmas.Bool.{not-false, ltb-true}
 use Rattle.book.specs.declared.derivation.Derivation.{Derivation}
@@ -12,10 +12,10 @@ use Rattle.book.specs.Refusals.{first}
 use Rattle.book.specs.Books.{standing, count_of, is_stale, entry_refusal, strike_refusal, Enters, Strikes}
 use Rattle.rising.specs.Lists.{insert, delete}
 use Rattle.index.specs.declared.fault.IndexFault.{IndexFault}
-use Rattle.index.specs.Meanings.{Meaning, Means}
+use Rattle.index.specs.Meanings.{Meaning, Means, tells}
 use Rattle.holds.specs.declared.sheet.Hold.{Hold}
 use Rattle.holds.specs.declared.sheet.HoldSheet.{HoldSheet}
-use Rattle.holds.specs.Holds.{holder_of, released as without}
+use Rattle.holds.specs.Holds.{held as held_in, holder_of, released as without}
 use Rattle.holds.specs.Sheets.{standing as Holds_on, place_fault, release_fault, Places, Releases}
 use Rattle.history.specs.declared.answer.Outcome.{Outcome}
 use Rattle.history.specs.declared.answer.Outcome.TheVariants.{Done, Carve, Stop}
@@ -208,7 +208,8 @@ module _ {X : Type 0} {meaning : X → Meaning} {refuses : X → Refuses} where
           let es = happened h in
           let now : current es ≡ true = not-false (current es) (sym f.mark ∙ fresh) in
           let below : ltb m n ≡ true = is_below (ltb m n) (rw (← f.count) low) in
-          rw f.sheet (bars_told n owed es (kept f) (meaning (index_in s)) (f.means now) m k (ltb-true m n below))
+          subst (λ (hs : List Hold). Decides (held_in hs k && tells (meaning (index_in s)) k m) (Bars es m k)) (sym f.sheet)
+          (bars_told n owed es (kept f) (meaning (index_in s)) (f.means now) m k (ltb-true m n below))
 
       pub carved_keeps : LowestOf (bars_in meaning s m) None → Keeps meaning refuses s (Order m) (Ok Carve) s
       carved_keeps none = ordered_keeps m Carve (λ n owed h f. lawful_carve n owed (happened h) m (granted.by n owed h f) (λ k b. none k ((barred f k).1 b)))

@@ -1,9 +1,8 @@
 -- A shop by the history that it follows, and what a call on it comes to.
-use Rattle.std.specs.Prelude.{◌≡◌, ℕ, ◌≤◌, Bool, true, cond, not, ◌&&◌, List, ◌∷◌, Some, None, Ok, Err, Option, Result, ◌≢◌, nat_lt}
+use Rattle.std.specs.Prelude.{◌≡◌, ℕ, ◌≤◌, Bool, true, not, ◌&&◌, List, ◌∷◌, Some, None, Ok, Err, Option, Result, ◌≢◌}
 use Rattle.book.specs.declared.kept.Book.{Book}
 use Rattle.book.specs.declared.refusal.Refusal.{Refusal}
-use Rattle.book.specs.declared.refusal.Refusal.TheVariants.{NoSuchModel}
-use Rattle.book.specs.Counts.{models}
+use Rattle.book.specs.Counts.{models, model_refusal}
 use Rattle.book.specs.Books.{standing, count_of, is_stale}
 use Rattle.index.specs.declared.fault.IndexFault.{IndexFault}
 use Rattle.index.specs.Meanings.{Meaning, tells, Means}
@@ -40,7 +39,7 @@ models_in s = models (count_of (book_in s))
 
 -- what a model that is not below the count is refused with
 abbrev pub unknown_to : {X : Type 0} → Shop X → ℕ → Option Refusal
-unknown_to s m = cond (nat_lt m (models_in s)) None (Some NoSuchModel)
+unknown_to s m = model_refusal (models_in s) m
 
 -- the answer that a call gives that is done or refused
 abbrev pub done : Result (Unit {0}) ShopFault → Answer
@@ -66,11 +65,6 @@ Unchanged (Err f) s t = t ≡ s
 abbrev pub Unindexed : {X : Type 0} → (X → Meaning) → Result (Unit {0}) ShopFault → Shop X → Shop X → Type 0
 Unindexed meaning (Ok u) s t = sheet_in t ≡ sheet_in s
 Unindexed meaning (Err f) s t = (book_in t ≡ book_in s) × (sheet_in t ≡ sheet_in s) × (meaning (index_in t) ≡ meaning (index_in s))
-
--- the lower of a model and one before it, if there is one
-abbrev pub lowered : Option ℕ → ℕ → Option ℕ
-lowered None m = Some m
-lowered (Some low) m = cond (nat_lt low m) (Some low) (Some m)
 
 -- h is on the sheet, and the index says that it leads to m
 abbrev pub bars_in : {X : Type 0} → (X → Meaning) → Shop X → ℕ → ℕ → Bool

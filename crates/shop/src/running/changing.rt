@@ -33,10 +33,7 @@ impl<I: Index> Shop<I> {
     pub(super) fn check_model(&self, model: u16) -> Result<(), Refusal>
         ensures { Answers (unknown_to self.now model) result }
     {
-        if model >= self.book.count().models() {
-            return Err(Refusal::NoSuchModel);
-        }
-        Ok(())
+        self.book.count().check(model)
     }
 
     /// Enters a derivation into the book.
