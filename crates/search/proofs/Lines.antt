@@ -1,19 +1,8 @@
 -- How the starts of the rows are written: level stretches, each a cut of the rising list.
-use Rattle.std.proofs.Common.{◌≡◌, ℕ, ◌+◌, ◌<◌, ◌≤◌, ◌≢◌, List, length, get_or, set, sym, ◌∙◌, subst, inl, inr, arith}
-use Rattle.std.proofs.lemmas.List.{get_or-set_same, get_or-set_other}
+use Rattle.std.proofs.Common.{ℕ, ◌+◌, ◌<◌, ◌≤◌, List, length, get_or, sym, subst, inl, inr, arith}
 use Rattle.std.proofs.lemmas.Bool.{cases_lt}
 use Rattle.book.specs.declared.derivation.Derivation.{Derivation}
 use Rattle.search.specs.Rows.{at, Cut, Level}
-
-pub level_more : (was : List ℕ) (low i x : ℕ) (xs : List ℕ) → low ≤ i → i < length xs → Level was low i x xs → Level was low (i + 1) x (set xs i x)
-level_more was low i x xs a l h = record {
-  before = λ k b. let n : k ≢ i = omega arith in get_or-set_other xs i k x 0 n ∙ h.before k b;
-  there = λ k b e. elim (cases_lt k i) [
-    | inl f ↦ (let n : k ≢ i = omega arith in get_or-set_other xs i k x 0 n ∙ h.there k b f)
-    | inr f ↦ (let s : i ≡ k = omega arith in subst (λ (y : ℕ). get_or (set xs i x) y 0 ≡ x) s (get_or-set_same xs i x 0 l))
-  ];
-  after = λ k b. let n : k ≢ i = omega arith in get_or-set_other xs i k x 0 n ∙ h.after k (omega arith);
-}
 
 module _ (ds : List Derivation) where
   -- each start below n is the cut at its place

@@ -1,11 +1,11 @@
 -- Successors that follow a book's derivations mean the book, and plain search over them shows it.
-use Rattle.std.proofs.Common.{◌≡◌, ℕ, zero, suc, ◌<◌, Bool, true, not, ◌&&◌, ◌||◌, eqb, refl, ap, ◌∙◌, subst, arith}
+use Rattle.std.proofs.Common.{◌≡◌, ℕ, zero, suc, ◌<◌, Bool, Some, not, ◌&&◌, ◌||◌, eqb, refl, ap, ◌∙◌, subst, arith}
 use mathlib.Core.Path.{fun_ext}
-use Rattle.std.proofs.lemmas.Bool.{lt-ltb, cond-true}
+use Rattle.std.proofs.lemmas.Bool.{lt-ltb}
 use Rattle.lineage.specs.Finite.{any, count, Within}
 use Rattle.lineage.specs.Book.{leads}
 use Rattle.lineage.proofs.Numbers.{count_same}
-use Rattle.index.specs.Meanings.{Meaning, nothing, over, counted, tells, Means}
+use Rattle.index.specs.Meanings.{over, counted, tells, Means}
 use Rattle.index.proofs.Building.{means_leads}
 use Rattle.search.specs.declared.plain.PlainSearch.{PlainSearch}
 use Rattle.search.specs.declared.successors.Successors.{Successors}
@@ -27,17 +27,15 @@ means_book s n R e f within =
     subst P e (subst Q same (λ w. means_leads (models_of s) (follows s) (reaches s) w (within_limits s))) within
 
 -- and the calls of plain search show the book: what it tells, below the count, is leads-to
-pub shows_book : (p : PlainSearch) (n : ℕ) (R : ℕ → ℕ → Bool) → p.built ≡ true → models_of p.successors ≡ n → ((u v : ℕ) → follows p.successors u v ≡ R u v) → ShowsBook p n R
-shows_book p n R b e f =
-    let s = p.successors in
+pub shows_book : (s : Successors) (n : ℕ) (R : ℕ → ℕ → Bool) → models_of s ≡ n → ((u v : ℕ) → follows s u v ≡ R u v) → ShowsBook (record { successors = Some s }) n R
+shows_book s n R e f =
+    let p : PlainSearch = record { successors = Some s } in
     let same : follows s ≡ R = fun_ext (λ u. fun_ext (f u)) in
-    let is : meaning_of p ≡ over (models_of s) (reaches s) = cond-true p.built (over (models_of s) (reaches s)) nothing b in
-    let c : counted (meaning_of p) ≡ n = ap counted is ∙ e in
+    let c : counted (meaning_of p) ≡ n = e in
     let t : (u v : ℕ) → u < n → v < n → tells (meaning_of p) u v ≡ leads n R u v = λ u v h k.
     let h' : u < models_of s = omega arith in
     let k' : v < models_of s = omega arith in
-    ap (λ (m : Meaning). tells m u v) is
-    ∙ rw (lt-ltb u (models_of s) h', lt-ltb v (models_of s) k') refl
+    rw (lt-ltb u (models_of s) h', lt-ltb v (models_of s) k') refl
     ∙ ap (λ (T : ℕ → ℕ → Bool). leads (models_of s) T u v) same
     ∙ ap (λ (m : ℕ). leads m R u v) e in
     record {

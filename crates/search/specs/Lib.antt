@@ -1,4 +1,5 @@
 pub mod Following
 pub mod Rows
 pub mod Marks
+pub mod Walks
 pub mod Plain

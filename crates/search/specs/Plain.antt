@@ -1,14 +1,19 @@
 -- What plain search means, and what its own calls show.
-use Rattle.std.specs.Prelude.{◌≡◌, ℕ, ◌<◌, Bool, cond, Ok, Err, Result}
+use Rattle.std.specs.Prelude.{◌≡◌, ℕ, ◌<◌, Bool, None, Some, Ok, Err, Option, Result}
 use Rattle.lineage.specs.Book.{leads}
 use Rattle.index.specs.declared.fault.IndexFault.{IndexFault}
 use Rattle.index.specs.Meanings.{Meaning, nothing, over, counted, tells}
 use Rattle.search.specs.declared.plain.PlainSearch.{PlainSearch}
+use Rattle.search.specs.declared.successors.Successors.{Successors}
 use Rattle.search.specs.Following.{models_of, reaches, others, returned}
 
 -- nothing, or who reaches whom among the successors
+abbrev pub meaning_kept : Option Successors → Meaning
+meaning_kept None = nothing
+meaning_kept (Some s) = over (models_of s) (reaches s)
+
 abbrev pub meaning_of : PlainSearch → Meaning
-meaning_of s = cond s.built (over (models_of s.successors) (reaches s.successors)) nothing
+meaning_of s = meaning_kept s.successors
 
 -- how many other models descend from u
 abbrev pub descendants_of : PlainSearch → ℕ → ℕ

@@ -7,6 +7,5 @@ pub mod kind;
 /// The successors of the book that it was built from, if it was built.
 #[derive(Drop)]
 pub struct PlainSearch {
-    built: bool,
-    successors: Successors,
+    successors: Option<Successors>,
 }

@@ -3,10 +3,10 @@ ghost use Rattle.std.specs.Prelude.{ℕ, ◌+◌, ◌<◌, ◌≤◌, slice_inde
 
 pub mod descending;
 pub mod filling;
-mod queue;
 pub mod reaching;
 pub mod reading;
 mod rows;
+mod walk;
 
 /// The models that were taken from model `u` are `targets[starts[u]..starts[u + 1]]`.
 #[derive(Drop)]

@@ -9,17 +9,17 @@ impl PlainSearch {
     pub fn descendants(&self, model: u16) -> u16
         ensures { result ≡ descendants_of self.now model }
     {
-        if self.built {
-            self.successors.descendants(model)
-        } else {
-            0
-        }
+        self.successors
+            .as_ref()
+            .map_or(0, |kept| kept.descendants(model))
     }
 
     /// Whether `model` leads to another model that leads back to it.
     pub fn in_circle(&self, model: u16) -> bool
         ensures { result ≡ circles self.now model }
     {
-        self.built && self.successors.in_circle(model)
+        self.successors
+            .as_ref()
+            .is_some_and(|kept| kept.in_circle(model))
     }
 }

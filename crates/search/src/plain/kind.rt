@@ -16,17 +16,14 @@ impl PlainSearch {
     pub fn new() -> PlainSearch
         ensures { meaning_of result ≡ nothing }
     {
-        PlainSearch {
-            built: false,
-            successors: Successors::none(),
-        }
+        PlainSearch { successors: None }
     }
 }
 
 impl Index for PlainSearch {
     const CAPACITY: u16 = 2048;
 
-    ghost capacity = { 2048 };
+    ghost CAPACITY = { 2048 };
 
     ghost meaning = { meaning_of };
 
@@ -38,24 +35,21 @@ impl Index for PlainSearch {
 
     ghost rules = { Prim.search rules };
 
-    fn limit() -> u16 {
-        Self::CAPACITY
-    }
-
     fn build(&mut self, book: &Book, work: &mut [u16]) -> Result<(), IndexFault> {
         if work.len() < WORK {
             return Err(IndexFault::WorkTooShort);
         }
-        self.successors.fill(book);
-        self.built = true;
+        self.successors = Some(Successors::of(book));
         Ok(())
     }
 
     fn leads(&self, u: u16, v: u16) -> bool {
-        self.built && self.successors.leads(u, v)
+        self.successors
+            .as_ref()
+            .is_some_and(|kept| kept.leads(u, v))
     }
 
     fn clear(&mut self) {
-        self.built = false;
+        self.successors = None;
     }
 }

@@ -13,7 +13,7 @@ impl Successors {
     }
 
     // The models that were taken from `model`; none if there is no such model.
-    pub(super) fn of(&self, model: u16) -> &[u16]
+    pub(super) fn targets_of(&self, model: u16) -> &[u16]
         ensures { result.now ≡ taken self.now model }
     {
         if model >= self.models {

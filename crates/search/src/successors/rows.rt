@@ -19,9 +19,7 @@ fn level(places: &mut [u16], low: usize, high: usize, value: u16)
     requires { (low ≤ high) × (high ≤ length places.old) }
     ensures { Level places.old low high value places.new }
 {
-    for i in low..high {
-        places[i] = value;
-    }
+    places[low..high].fill(value);
 }
 
 /// Writes to `starts[u]`, for each model u and for the count, how many derivations come before those of u.
