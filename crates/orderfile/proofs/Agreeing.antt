@@ -2,8 +2,7 @@
 use Rattle.std.proofs.Common.{◌≡◌, ℕ, List, [], ◌∷◌, Some, None, Option, sym, refl, ap, ◌∙◌, subst, ap₂, inl, inr}
 use Rattle.bookfile.specs.Files.{count_in, derivations_in}
 use Rattle.index.specs.Builds.{rule}
-use Rattle.history.specs.declared.answer.Answer.{Answer}
-use Rattle.history.specs.Answers.{Told}
+use Rattle.history.specs.Answers.{Answer, Told}
 use Rattle.history.specs.Events.{History, happened}
 use Rattle.history.specs.Laws.{LawfulHistory}
 use Rattle.history.specs.Made.{answer_to}
@@ -11,11 +10,10 @@ use Rattle.history.proofs.Histories.{lawful_by_kinds}
 use Rattle.history.proofs.Kept.{kept_lawful}
 use Rattle.history.proofs.Made.{answer_lawful}
 use Rattle.lines.specs.declared.form.Form.{Form}
-use Rattle.lines.specs.declared.reply.Reply.{Reply}
 use Rattle.lines.specs.Computed.{form_of}
 use Rattle.lines.specs.Forms.{call_of}
 use Rattle.lines.specs.Lines.{lines_of}
-use Rattle.lines.specs.Replies.{reply_of, told}
+use Rattle.lines.specs.Replies.{Reply, reply_of, told}
 use Rattle.lines.proofs.Replies.{told_same}
 use Rattle.shop.specs.Loads.{entries}
 use Rattle.orderfile.specs.declared.day.DayFault.{DayFault}

@@ -11,8 +11,8 @@ use Rattle.book.specs.Refusals.{unless}
 use Rattle.book.specs.Derivations.{Valid}
 use Rattle.book.specs.Books.{entry_refusal, in_turn}
 use Rattle.book.proofs.Turns.{valid_turns}
-use Rattle.history.specs.declared.answer.Answer.{Answer}
-use Rattle.history.specs.declared.answer.Answer.TheVariants.{Done}
+use Rattle.history.specs.declared.answer.Outcome.TheVariants.{Done}
+use Rattle.history.specs.Answers.{Answer}
 use Rattle.history.specs.declared.call.Call.{Call}
 use Rattle.history.specs.declared.call.Call.TheVariants.{Enter}
 use Rattle.history.specs.declared.fault.ShopFault.TheVariants.{Book as OfBook}
@@ -33,7 +33,7 @@ goes_on None next ds e = (refl, e)
 goes_on (Some r) next ds e = absurd (let z : ◌≡◌ {A = ℕ} 0 1 = cc in omega arith)
 
 abbrev made : Derivation → Call × Answer
-made d = (Enter d, Done)
+made d = (Enter d, Ok Done)
 
 module _ (n : ℕ) (refuses : Refuses) where
   lawful_entries_onto : (es : List Derivation) (h : History) (ds : List Derivation) → LawfulHistory n refuses h → in_turn n (book_of (happened h)) es ≡ Ok ds → LawfulHistory n refuses (reverse_aux (map made es) h)
@@ -41,7 +41,7 @@ module _ (n : ℕ) (refuses : Refuses) where
   lawful_entries_onto (d ∷ es) h ds l e =
       let p = goes_on (entry_refusal n (book_of (happened h)) d) (in_turn n (insert by_models (book_of (happened h)) d) es) ds e in
       let one = lawful_done n refuses (happened h) (Enter d) refl (entry_owed n refuses (happened h) (kept_lawful n refuses h l) d ∙ ap (option_map OfBook) p.0) in
-      lawful_entries_onto es (made d ∷ h) ds (lawful_more n refuses h (Enter d) Done one l)
+      lawful_entries_onto es (made d ∷ h) ds (lawful_more n refuses h (Enter d) (Ok Done) one l)
       (ap (λ (bs : List Derivation). in_turn n bs es) (book_entered (happened h) d) ∙ p.1)
 
   pub lawful_entries : (ds : List Derivation) → Valid n ds → LawfulHistory n refuses (entries ds)

@@ -1,9 +1,10 @@
 -- The law over the lines of a day.
-use Rattle.std.proofs.Common.{◌≡◌, ℕ, suc, ◌<◌, true, not, ltb, List, [], ◌∷◌, ◌++◌, reverse, length, Some, None, Option, sym, refl, ap, ◌∙◌, append_assoc, arith}
+use Rattle.std.proofs.Common.{◌≡◌, ℕ, suc, ◌<◌, true, not, ltb, List, [], ◌∷◌, ◌++◌, reverse, length, Some, None, Ok, Err, Option, sym, refl, ap, ◌∙◌, append_assoc, arith}
 use mathlib.Core.List.{reverse-cons}
 use Rattle.std.specs.Option.{option_map}
 use Rattle.std.specs.List.{slice_get}
 use Rattle.std.proofs.lemmas.List.{append-nil}
+use Rattle.std.proofs.lemmas.Option.{none-some}
 use Rattle.std.proofs.lemmas.Bool.{not-false, ltb-true}
 use Rattle.book.specs.Refusals.{first}
 use Rattle.bookfile.specs.declared.refusal.FileRefusal.{FileRefusal}
@@ -11,30 +12,26 @@ use Rattle.bookfile.specs.Files.{count_in, derivations_in}
 use Rattle.bookfile.specs.Table.{file_refusal}
 use Rattle.bookfile.proofs.Files.{accepted_valid}
 use Rattle.index.specs.Builds.{rule}
-use Rattle.history.specs.declared.answer.Answer.{Answer}
-use Rattle.history.specs.declared.answer.Answer.TheVariants.{Done as AnswerDone, Carve as AnswerCarve, Stop as AnswerStop, Refused as AnswerRefused}
+use Rattle.history.specs.declared.answer.Outcome.TheVariants.{Done, Carve, Stop}
 use Rattle.history.specs.declared.call.Call.{Call}
 use Rattle.history.specs.declared.call.Call.TheVariants.{Order as ToOrder}
-use Rattle.history.specs.Answers.{carved, named, refused}
+use Rattle.history.specs.Answers.{Answer, carved, named, refused}
 use Rattle.history.specs.Events.{Event, History, happened}
 use Rattle.history.specs.Standing.{current}
 use Rattle.history.specs.Table.{Refuses}
 use Rattle.history.specs.Laws.{Free, Lowest, Lawful, LawfulHistory, AnswersOrder}
 use Rattle.history.specs.Made.{answer_to}
 use Rattle.history.specs.Theorems.{calls}
-use Rattle.history.proofs.Last.{none_some}
 use Rattle.history.proofs.Histories.{lawful_more}
 use Rattle.history.proofs.Kept.{kept_lawful, check_none}
 use Rattle.history.proofs.Orders.{carve_is, stop_is}
 use Rattle.history.proofs.Made.{answer_lawful, lawful_law, orders_are_answered}
 use Rattle.lines.specs.declared.form.Form.{Form}
 use Rattle.lines.specs.declared.form.Form.TheVariants.{Order}
-use Rattle.lines.specs.declared.reply.Reply.{Reply}
-use Rattle.lines.specs.declared.reply.Reply.TheVariants.{Carve, Stop}
 use Rattle.lines.specs.Computed.{form_of}
 use Rattle.lines.specs.Forms.{numbers_of, Small, call_of}
 use Rattle.lines.specs.Lines.{lines_of}
-use Rattle.lines.specs.Replies.{reply_of}
+use Rattle.lines.specs.Replies.{Reply, reply_of}
 use Rattle.lines.specs.Texts.{text}
 use Rattle.lines.proofs.Computed.{form_only}
 use Rattle.shop.specs.Loads.{entries}
@@ -75,17 +72,17 @@ module _ (n : ℕ) (refuses : Refuses) (work : ℕ) where
       ∙ append_assoc (reverse (calls h)) (call_in work (form_of l)) (calls_in work ls)
 
 -- an answer by its reply
-carve_reply : (a : Answer) → reply_of a ≡ Carve → carved a ≡ true
-carve_reply AnswerDone e = absurd (let z : ◌≡◌ {A = ℕ} 0 1 = cc in omega arith)
-carve_reply AnswerCarve e = refl
-carve_reply (AnswerStop s) e = absurd (let z : ◌≡◌ {A = ℕ} 0 1 = cc in omega arith)
-carve_reply (AnswerRefused f) e = absurd (let z : ◌≡◌ {A = ℕ} 0 1 = cc in omega arith)
+carve_reply : (a : Answer) → reply_of a ≡ Ok Carve → carved a ≡ true
+carve_reply (Ok Done) e = absurd (let z : ◌≡◌ {A = ℕ} 0 1 = cc in omega arith)
+carve_reply (Ok Carve) e = refl
+carve_reply (Ok (Stop s)) e = absurd (let z : ◌≡◌ {A = ℕ} 0 1 = cc in omega arith)
+carve_reply (Err f) e = absurd (let z : ◌≡◌ {A = ℕ} 0 1 = cc in omega arith)
 
-stop_reply : (a : Answer) (k : ℕ) → reply_of a ≡ Stop (record { model = k }) → named a ≡ Some k
-stop_reply AnswerDone k e = absurd (let z : ◌≡◌ {A = ℕ} 0 1 = cc in omega arith)
-stop_reply AnswerCarve k e = absurd (let z : ◌≡◌ {A = ℕ} 0 1 = cc in omega arith)
-stop_reply (AnswerStop s) k e = let q : s.model ≡ k = cc in ap Some q
-stop_reply (AnswerRefused f) k e = absurd (let z : ◌≡◌ {A = ℕ} 0 1 = cc in omega arith)
+stop_reply : (a : Answer) (k : ℕ) → reply_of a ≡ Ok (Stop (record { model = k })) → named a ≡ Some k
+stop_reply (Ok Done) k e = absurd (let z : ◌≡◌ {A = ℕ} 0 1 = cc in omega arith)
+stop_reply (Ok Carve) k e = absurd (let z : ◌≡◌ {A = ℕ} 0 1 = cc in omega arith)
+stop_reply (Ok (Stop s)) k e = let q : s.model ≡ k = cc in ap Some q
+stop_reply (Err f) k e = absurd (let z : ◌≡◌ {A = ℕ} 0 1 = cc in omega arith)
 
 -- an order that is not refused is for a model of the book, while the index is current
 module _ (n : ℕ) (refuses : Refuses) (es : List Event) (m : ℕ) (a : Answer) (l : Lawful n refuses es (ToOrder m) a) where
@@ -95,20 +92,20 @@ module _ (n : ℕ) (refuses : Refuses) (es : List Event) (m : ℕ) (a : Answer) 
       let fresh = check_none (not (current es)) _ _ known.1 in
       (ltb-true m n (not-false (ltb m n) known.0), not-false (current es) fresh.0, l.granted r)
 
-  carve_exactly : (o : Option Reply) → o ≡ Some (reply_of a) → ((o ≡ Some Carve) → (m < n) × (current es ≡ true) × Free es m) × ((m < n) × (current es ≡ true) × Free es m → o ≡ Some Carve)
+  carve_exactly : (o : Option Reply) → o ≡ Some (reply_of a) → ((o ≡ Some (Ok Carve)) → (m < n) × (current es ≡ true) × Free es m) × ((m < n) × (current es ≡ true) × Free es m → o ≡ Some (Ok Carve))
   carve_exactly o e = (
     (λ q.
-        let r : reply_of a ≡ Carve = cc in
+        let r : reply_of a ≡ Ok Carve = cc in
         let c = carve_reply a r in
         let g = granted_order (ap refused (carve_is a c)) in
         (g.0, g.1, g.2.carve.0 c)),
     (λ p. e ∙ ap (λ (x : Answer). Some (reply_of x)) (carve_is a ((orders_are_answered.while_current n refuses es m a l p.0 p.1).carve.1 p.2))),
   )
 
-  stop_exactly : (k : ℕ) (o : Option Reply) → o ≡ Some (reply_of a) → ((o ≡ Some (Stop (record { model = k }))) → (m < n) × (current es ≡ true) × Lowest es m k) × ((m < n) × (current es ≡ true) × Lowest es m k → o ≡ Some (Stop (record { model = k })))
+  stop_exactly : (k : ℕ) (o : Option Reply) → o ≡ Some (reply_of a) → ((o ≡ Some (Ok (Stop (record { model = k })))) → (m < n) × (current es ≡ true) × Lowest es m k) × ((m < n) × (current es ≡ true) × Lowest es m k → o ≡ Some (Ok (Stop (record { model = k }))))
   stop_exactly k o e = (
     (λ q.
-        let r : reply_of a ≡ Stop (record { model = k }) = cc in
+        let r : reply_of a ≡ Ok (Stop (record { model = k })) = cc in
         let c = stop_reply a k r in
         let g = granted_order (ap refused (stop_is a k c)) in
         (g.0, g.1, (g.2.stop k).0 c)),
@@ -117,7 +114,7 @@ module _ (n : ℕ) (refuses : Refuses) (es : List Event) (m : ℕ) (a : Answer) 
 
 book_accepted : (o : Option FileRefusal) (next : Option DayFault) → first (option_map Book o) next ≡ None → o ≡ None
 book_accepted None next e = refl
-book_accepted (Some r) next e = absurd (none_some (sym e))
+book_accepted (Some r) next e = absurd (none-some _ (sym e))
 
 -- the entries of a day that is answered
 pub lawful_start : (capacity : ℕ) (book orders : List ℕ) → day_fault book orders ≡ None → LawfulHistory (count_in book) (rule capacity) (entries (derivations_in book))

@@ -1,4 +1,3 @@
-mod Calling
 mod Replying
 mod Entries
 mod Lawful

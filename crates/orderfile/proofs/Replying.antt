@@ -6,7 +6,7 @@ use Rattle.std.proofs.lemmas.List.{append-nil, length-append, length-drop, drop_
 use Rattle.text.specs.Placing.{placed}
 use Rattle.text.proofs.Placing.{placed_none, placed_append, length_placed}
 use Rattle.index.specs.Meanings.{Meaning}
-use Rattle.history.specs.declared.answer.Answer.{Answer}
+use Rattle.history.specs.Answers.{Answer}
 use Rattle.history.specs.Events.{History, happened}
 use Rattle.history.specs.Table.{Refuses}
 use Rattle.history.specs.Made.{answer_to}
@@ -15,11 +15,10 @@ use Rattle.history.proofs.Kept.{kept_lawful}
 use Rattle.history.proofs.Made.{answer_lawful}
 use Rattle.lines.specs.declared.form.Form.{Form}
 use Rattle.lines.specs.declared.reading.Line.{Line}
-use Rattle.lines.specs.declared.reply.Reply.{Reply}
 use Rattle.lines.specs.Computed.{form_of}
 use Rattle.lines.specs.Forms.{call_of}
 use Rattle.lines.specs.Reading.{line_bytes}
-use Rattle.lines.specs.Replies.{reply_text, reply_of}
+use Rattle.lines.specs.Replies.{Reply, reply_text, reply_of}
 use Rattle.shop.specs.declared.running.Shop.{Shop}
 use Rattle.shop.specs.Shops.{Follows}
 use Rattle.orderfile.specs.declared.answering.AnsweredLine.{AnsweredLine}

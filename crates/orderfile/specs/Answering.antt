@@ -1,29 +1,21 @@
 -- What answering a line comes to.
-use Rattle.std.specs.Prelude.{◌≡◌, ℕ, ◌<◌, ◌≤◌, List, length, Some, None, Ok, Err, Option, Result}
+use Rattle.std.specs.Prelude.{◌≡◌, ℕ, ◌<◌, ◌≤◌, List, length, Some, None, Err, Option}
 use Rattle.std.specs.Option.{option_map}
 use Rattle.text.specs.Placing.{placed}
 use Rattle.index.specs.Meanings.{Meaning}
-use Rattle.history.specs.declared.answer.Answer.{Answer}
+use Rattle.history.specs.Answers.{Answer}
 use Rattle.history.specs.Table.{Refuses}
-use Rattle.lines.specs.declared.fault.LineFault.{LineFault}
 use Rattle.lines.specs.declared.fault.LineFault.TheVariants.{OutputTooShort, NoForm}
 use Rattle.lines.specs.declared.form.Form.{Form}
 use Rattle.lines.specs.declared.reading.Line.{Line}
-use Rattle.lines.specs.declared.reply.Reply.{Reply}
-use Rattle.lines.specs.declared.reply.Reply.TheVariants.{Refused}
 use Rattle.lines.specs.Computed.{form_of}
 use Rattle.lines.specs.Forms.{call_of}
 use Rattle.lines.specs.Reading.{line_bytes, line_place}
-use Rattle.lines.specs.Replies.{reply_text, reply_of, refused}
+use Rattle.lines.specs.Replies.{Reply, reply_text, reply_of, refused}
 use Rattle.shop.specs.declared.running.Shop.{Shop}
 use Rattle.shop.specs.Shops.{Keeps}
 use Rattle.orderfile.specs.declared.answering.RefusedLine.{RefusedLine}
 use Rattle.orderfile.specs.declared.answering.AnsweredLine.{AnsweredLine}
-
--- the reply of a result, whose fault is a refusal
-abbrev pub settled : Result Reply LineFault → Reply
-settled (Ok r) = r
-settled (Err f) = Refused f
 
 -- the refusal in a reply, with the place of its line
 abbrev pub refused_at : ℕ → Reply → Option RefusedLine
@@ -38,7 +30,7 @@ module _ {X : Type 0} (meaning : X → Meaning) (refuses : X → Refuses) where
 
   -- a line of this form, or of none, which is refused and calls nothing
   abbrev pub Responds : Shop X → ℕ → Option Form → Reply → Shop X → Type 0
-  Responds s lent None r t = (r ≡ Refused NoForm) × (t ≡ s)
+  Responds s lent None r t = (r ≡ Err NoForm) × (t ≡ s)
   Responds s lent (Some f) r t = Calls s lent f r t
 
   -- a line answered with room for a reply: it is in front of the buffer, and what is behind it is as it was

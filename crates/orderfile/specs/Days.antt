@@ -15,12 +15,10 @@ use Rattle.history.specs.Table.{Refuses}
 use Rattle.history.specs.Made.{answer_to, with_call}
 use Rattle.lines.specs.declared.fault.LineFault.TheVariants.{NoForm}
 use Rattle.lines.specs.declared.form.Form.{Form}
-use Rattle.lines.specs.declared.reply.Reply.{Reply}
-use Rattle.lines.specs.declared.reply.Reply.TheVariants.{Refused}
 use Rattle.lines.specs.Computed.{form_of}
 use Rattle.lines.specs.Forms.{call_of}
 use Rattle.lines.specs.Lines.{lines_of}
-use Rattle.lines.specs.Replies.{reply_text, reply_of}
+use Rattle.lines.specs.Replies.{Reply, reply_text, reply_of}
 use Rattle.shop.specs.declared.running.Shop.{Shop}
 use Rattle.shop.specs.Shops.{Follows}
 use Rattle.shop.specs.Loads.{entries}
@@ -48,7 +46,7 @@ day_fault book orders = first (option_map Book (file_refusal book)) (cond (nat_l
 module _ (n : ℕ) (refuses : Refuses) (work : ℕ) where
   -- the reply to a line of this form, or of none
   abbrev pub reply_to : History → Option Form → Reply
-  reply_to h None = Refused NoForm
+  reply_to h None = Err NoForm
   reply_to h (Some f) = reply_of (answer_to n refuses (happened h) (call_of work f))
 
   -- the history behind it: a line of no form makes no call

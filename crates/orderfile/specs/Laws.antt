@@ -1,10 +1,11 @@
 -- The law over a day, in the words of its lines.
-use Rattle.std.specs.Prelude.{◌≡◌, ℕ, ◌<◌, true, ◌↔◌, List, [], ◌∷◌, ◌++◌, map, reverse, length, Some, None, Option, ◌≢◌}
+use Rattle.std.specs.Prelude.{◌≡◌, ℕ, ◌<◌, true, ◌↔◌, List, [], ◌∷◌, ◌++◌, map, reverse, length, Some, None, Ok, Err, Option, ◌≢◌}
 use Rattle.std.specs.List.{slice_get}
 use Rattle.lineage.specs.Lists.{◌∈◌}
 use Rattle.bookfile.specs.Files.{count_in, derivations_in}
 use Rattle.index.specs.Builds.{rule}
-use Rattle.history.specs.declared.answer.Answer.{Answer}
+use Rattle.history.specs.declared.answer.Outcome.TheVariants.{Carve, Stop}
+use Rattle.history.specs.Answers.{Answer}
 use Rattle.history.specs.declared.call.Call.{Call}
 use Rattle.history.specs.declared.call.Call.TheVariants.{Enter as ToEnter}
 use Rattle.history.specs.Events.{Event, History, happened}
@@ -14,12 +15,10 @@ use Rattle.history.specs.Theorems.{calls}
 use Rattle.lines.specs.declared.fault.LineFault.TheVariants.{NoForm}
 use Rattle.lines.specs.declared.form.Form.{Form}
 use Rattle.lines.specs.declared.form.Form.TheVariants.{Order}
-use Rattle.lines.specs.declared.reply.Reply.{Reply}
-use Rattle.lines.specs.declared.reply.Reply.TheVariants.{Carve, Stop, Refused}
 use Rattle.lines.specs.Computed.{form_of}
 use Rattle.lines.specs.Forms.{numbers_of, Small, call_of}
 use Rattle.lines.specs.Lines.{lines_of}
-use Rattle.lines.specs.Replies.{reply_of, told}
+use Rattle.lines.specs.Replies.{Reply, reply_of, told}
 use Rattle.lines.specs.Texts.{text}
 use Rattle.shop.specs.Loads.{entries}
 use Rattle.orderfile.specs.Days.{day_fault, history_behind, day_replies, printed}
@@ -51,17 +50,17 @@ pub record LinesLawful (capacity work : ℕ) (book orders : List ℕ) : Type 0 w
   pub law : Law (count_in book) capacity (day_history capacity work book (lines_of orders))
   -- a line that is the text of no form is refused by 18
   pub formless : (before after : List (List ℕ)) (l : List ℕ) → lines_of orders ≡ before ++ l ∷ after → ((f : Form) → Small (numbers_of f) → l ≢ text f)
-      → slice_get (day_replies capacity work book orders) (length before) ≡ Some (Refused NoForm)
+      → slice_get (day_replies capacity work book orders) (length before) ≡ Some (Err NoForm)
   -- a line that is the text of a form is replied the lawful answer to its call
   pub formed : (before after : List (List ℕ)) (f : Form) → Small (numbers_of f) → lines_of orders ≡ before ++ text f ∷ after
       → (a : Answer) × (slice_get (day_replies capacity work book orders) (length before) ≡ Some (reply_of a)) × Lawful (count_in book) (rule capacity) (happened_before capacity work book before) (call_of work f) a
   -- so an order line is replied carve exactly if its model is one of the book, the index is current, and no held model leads to the ordered one
   pub carve : (before after : List (List ℕ)) (m : ℕ) → m < 65536 → lines_of orders ≡ before ++ text (Order m) ∷ after
-      → (slice_get (day_replies capacity work book orders) (length before) ≡ Some Carve)
+      → (slice_get (day_replies capacity work book orders) (length before) ≡ Some (Ok Carve))
       ↔ ((m < count_in book) × (current (happened_before capacity work book before) ≡ true) × Free (happened_before capacity work book before) m)
   -- and stop with a model exactly if, so far, that is the lowest-numbered held model that leads to the ordered one
   pub stop : (before after : List (List ℕ)) (m k : ℕ) → m < 65536 → lines_of orders ≡ before ++ text (Order m) ∷ after
-      → (slice_get (day_replies capacity work book orders) (length before) ≡ Some (Stop (record { model = k })))
+      → (slice_get (day_replies capacity work book orders) (length before) ≡ Some (Ok (Stop (record { model = k }))))
       ↔ ((m < count_in book) × (current (happened_before capacity work book before) ≡ true) × Lowest (happened_before capacity work book before) m k)
 
 -- on every day that is answered

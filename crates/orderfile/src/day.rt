@@ -16,8 +16,15 @@ use shop::loading::load;
 use shop::running::Shop;
 use text::writing::write_numbered;
 
-/// Why no line of a day is answered.
+/// The bytes of a day's two files.
 #[derive(Clone, Copy)]
+pub struct Day<'a> {
+    pub book: &'a [u8],
+    pub orders: &'a [u8],
+}
+
+/// Why no line of a day is answered.
+#[derive(Clone, Copy, Debug, PartialEq, Eq)]
 pub enum DayFault {
     Book(FileRefusal),
     /// The order file is over 32,768 bytes.
@@ -55,20 +62,21 @@ impl From<FileRefusal> for DayFault {
 }
 
 // Opens the shop of a day: the book file is checked, then the order file's length, and the derivations are entered.
-fn open_day<I: Index + Drop>(index: I, book: &[u8], orders: &[u8]) -> Result<Shop<I>, DayFault>
-    ensures { Opens I.Index.meaning I.Index.refuses (I.Index.refuses index) book.now orders.now result }
+fn open_day<I: Index + Drop>(index: I, day: Day<'_>) -> Result<Shop<I>, DayFault>
+    ensures { Opens I.Index.meaning I.Index.refuses (I.Index.refuses index) day.entry.book.now day.entry.orders.now result }
 {
-    let file = check(book)?;
-    if orders.len() > 32768 {
+    let file = check(day.book)?;
+    if day.orders.len() > 32768 {
         return Err(DayFault::OrdersTooLong);
     }
-    match load(&file, index) {
-        Ok(shop) => Ok(shop),
-        Err(_) => unreachable(), // an accepted file is entered whole
-    }
+    let Ok(shop) = load(&file, index) else {
+        unreachable(); // an accepted file is entered whole
+    };
+    Ok(shop)
 }
 
 // Writes the one line of a day that is not answered, for which there is room.
+#[tactic(auto, using(crate::proofs::Faults::fault_short))]
 fn write_fault(out: &mut [u8], fault: DayFault) -> usize
     requires { 16 ≤ length out.old }
     ensures end { result ≡ length (fault_text fault) }
@@ -91,11 +99,9 @@ fn answer_lines<I: Index>(
     requires { 16 * length (lines_of orders.now) ≤ length out.old }
     ensures { AnswersLines I.Index.meaning I.Index.refuses shop.old (length work.old) (lines_of orders.now) out.old result out.new }
 {
-    let mut lines = Lines::new(orders);
     let mut end = 0;
-    while let Some(line) = lines.next() {
-        let answered = answer_line(shop, &line, work, &mut out[end..]);
-        end += answered.len;
+    for line in Lines::new(orders) {
+        end += answer_line(shop, &line, work, &mut out[end..]).len;
     }
     end
 }
@@ -105,20 +111,19 @@ fn answer_lines<I: Index>(
 /// A buffer of less than 16 bytes a line, or less than 16, is refused by 17, and nothing is touched.
 pub fn answer_day<I: Index + Drop>(
     index: I,
-    book: &[u8],
-    orders: &[u8],
+    day: Day<'_>,
     work: &mut [u16],
     out: &mut [u8],
 ) -> Result<usize, WriteRefusal>
-    ensures prints { Prints I.Index.CAPACITY (length work.old) book.now orders.now out.old result out.new }
-    ensures law { Lawfully I.Index.CAPACITY (length work.old) book.now orders.now }
+    ensures prints { Prints I.Index.CAPACITY (length work.old) day.entry.book.now day.entry.orders.now out.old result out.new }
+    ensures law { Lawfully I.Index.CAPACITY (length work.old) day.entry.book.now day.entry.orders.now }
 {
-    let lines = count_lines(orders);
+    let lines = count_lines(day.orders);
     if out.len() < 16 || out.len() / 16 < lines {
         return Err(WriteRefusal::TooShort);
     }
-    match open_day(index, book, orders) {
-        Err(fault) => Ok(write_fault(out, fault)),
-        Ok(mut shop) => Ok(answer_lines(&mut shop, orders, work, out)),
-    }
+    Ok(match open_day(index, day) {
+        Err(fault) => write_fault(out, fault),
+        Ok(mut shop) => answer_lines(&mut shop, day.orders, work, out),
+    })
 }

@@ -6,7 +6,4 @@ use Rattle.orderfile.proofs.day.answer_lines.Given as goal
 
 abbrev pub invariant-loop-line : goal.invariant-loop-line
 invariant-loop-line g l =
-    Replying g.I.Index.meaning g.I.Index.refuses l.initial.shop (length l.initial.work) (lines_of l.orders) l.initial.out l.shop (lines_left l.lines) l.out l.end
-
-abbrev pub decreases-loop-line : goal.decreases-loop-line
-decreases-loop-line g l = length (lines_left l.lines)
+    Replying g.I.Index.meaning g.I.Index.refuses l.initial.shop (length l.initial.work) (lines_of l.orders) l.initial.out l.shop (lines_left l.line-iterator) l.out l.end
