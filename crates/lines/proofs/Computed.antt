@@ -1,12 +1,13 @@
 -- The computed form of a line is the one that parsing answers.
 use Rattle.std.proofs.Common.{◌≡◌, ℕ, ◌<◌, true, eqb, List, [], ◌∷◌, ◌++◌, Some, None, decimal, Option, sym, refl, ap, ◌∙◌, subst, arith, MatchOption}
+use Rattle.std.specs.Option.{option_map, option_and_then}
 use Rattle.std.proofs.lemmas.Bool.{eqb-true, eqb-false, cond_both}
 use Rattle.text.specs.Numerals.{first_number}
 use Rattle.text.proofs.Computed.{first_number_is}
 use Rattle.lines.specs.declared.form.Form.{Form}
 use Rattle.lines.specs.declared.form.Form.TheVariants.{Enter, Strike, Index, Hold, Release, Order}
 use Rattle.lines.specs.Texts.{spaced, listed, Parsed, NoNext, NoOne, NoTwo, Spaced}
-use Rattle.lines.specs.Computed.{next_of, lone, lone_of, beside, one_of, pair_of, two_of, once, twice, bare, form_of}
+use Rattle.lines.specs.Computed.{next_of, lone, one_of, two_of, bare, form_of}
 use Rattle.lines.proofs.Texts.{next_cases, not_alone, no_second, head_same, tail_same, parsed_heard}
 
 next_is : (bytes : List ℕ) → MatchOption (next_of bytes) (NoNext bytes) (λ p. Spaced bytes p.0 p.1)
@@ -20,7 +21,7 @@ lone_is bytes v [] s = (s.small, s.whole)
 lone_is bytes v (c ∷ cs) s = not_alone bytes v (c ∷ cs) s (λ e. let z : ◌≡◌ {A = ℕ} 0 1 = cc in omega arith)
 
 lone_of_is : (bytes : List ℕ) (o : Option (ℕ × List ℕ)) → MatchOption o (NoNext bytes) (λ p. Spaced bytes p.0 p.1)
-    → MatchOption (lone_of o) (NoOne bytes) (λ w. (w < 65536) × (bytes ≡ listed (w ∷ [])))
+    → MatchOption (option_and_then (λ p. lone p.0 p.1) o) (NoOne bytes) (λ w. (w < 65536) × (bytes ≡ listed (w ∷ [])))
 lone_of_is bytes None h = λ w l e. h w [] (record { small = l; whole = e; ends = refl })
 lone_of_is bytes (Some p) h = lone_is bytes p.0 p.1 h
 
@@ -29,12 +30,12 @@ one_is bytes = lone_of_is bytes (next_of bytes) (next_is bytes)
 
 beside_is : (bytes : List ℕ) (u : ℕ) (rest : List ℕ) (o : Option ℕ) → Spaced bytes u rest
     → MatchOption o (NoOne rest) (λ w. (w < 65536) × (rest ≡ listed (w ∷ [])))
-    → MatchOption (beside u o) (NoTwo bytes) (λ p. ((p.0 < 65536) × (p.1 < 65536)) × (bytes ≡ listed (p.0 ∷ (p.1 ∷ []))))
+    → MatchOption {T = ℕ × ℕ} (option_map (λ v. (u, v)) o) (NoTwo bytes) (λ p. ((p.0 < 65536) × (p.1 < 65536)) × (bytes ≡ listed (p.0 ∷ (p.1 ∷ []))))
 beside_is bytes u rest None s h = no_second bytes u rest s h
 beside_is bytes u rest (Some v) s h = ((s.small, h.0), s.whole ∙ ap (λ xs. spaced u ++ xs) h.1)
 
 pair_is : (bytes : List ℕ) (o : Option (ℕ × List ℕ)) → MatchOption o (NoNext bytes) (λ p. Spaced bytes p.0 p.1)
-    → MatchOption (pair_of o) (NoTwo bytes) (λ p. ((p.0 < 65536) × (p.1 < 65536)) × (bytes ≡ listed (p.0 ∷ (p.1 ∷ []))))
+    → MatchOption {T = ℕ × ℕ} (option_and_then (λ p. option_map (λ v. (p.0, v)) (one_of p.1)) o) (NoTwo bytes) (λ p. ((p.0 < 65536) × (p.1 < 65536)) × (bytes ≡ listed (p.0 ∷ (p.1 ∷ []))))
 pair_is bytes None h = λ a b la lb e. h a (listed (b ∷ [])) (record { small = la; whole = e; ends = refl })
 pair_is bytes (Some p) h = beside_is bytes p.0 p.1 (one_of p.1) h (one_is p.1)
 
@@ -52,11 +53,11 @@ no_form l rest he hs hi hh hr ho (Hold u v) f e = hh (head_same _ _ _ _ e) u v f
 no_form l rest he hs hi hh hr ho (Release u v) f e = hr (head_same _ _ _ _ e) u v f.0 f.1.0 (tail_same _ _ _ _ e)
 no_form l rest he hs hi hh hr ho (Order u) f e = ho (head_same _ _ _ _ e) u f.0 (tail_same _ _ _ _ e)
 
-twice_is : (l : ℕ) (rest : List ℕ) (f : ℕ → ℕ → Form) (o : Option (ℕ × ℕ))
-    → ((u v : ℕ) → u < 65536 → v < 65536 → rest ≡ listed (u ∷ (v ∷ [])) → Parsed (l ∷ rest) (Some (f u v)))
+twice_is : (l : ℕ) (rest : List ℕ) (f : ℕ × ℕ → Form) (o : Option (ℕ × ℕ))
+    → ((u v : ℕ) → u < 65536 → v < 65536 → rest ≡ listed (u ∷ (v ∷ [])) → Parsed (l ∷ rest) (Some (f (u, v))))
     → (NoTwo rest → Parsed (l ∷ rest) None)
     → MatchOption o (NoTwo rest) (λ p. ((p.0 < 65536) × (p.1 < 65536)) × (rest ≡ listed (p.0 ∷ (p.1 ∷ []))))
-    → Parsed (l ∷ rest) (twice f o)
+    → Parsed (l ∷ rest) (option_map f o)
 twice_is l rest f None y n h = n h
 twice_is l rest f (Some p) y n h = y p.0 p.1 h.0.0 h.0.1 h.1
 
@@ -64,7 +65,7 @@ once_is : (l : ℕ) (rest : List ℕ) (f : ℕ → Form) (o : Option ℕ)
     → ((v : ℕ) → v < 65536 → rest ≡ listed (v ∷ []) → Parsed (l ∷ rest) (Some (f v)))
     → (NoOne rest → Parsed (l ∷ rest) None)
     → MatchOption o (NoOne rest) (λ v. (v < 65536) × (rest ≡ listed (v ∷ [])))
-    → Parsed (l ∷ rest) (once f o)
+    → Parsed (l ∷ rest) (option_map f o)
 once_is l rest f None y n h = n h
 once_is l rest f (Some v) y n h = y v h.0 h.1
 
@@ -85,17 +86,17 @@ form_is [] = λ c f e. let z : ◌≡◌ {A = ℕ} 0 1 = cc in omega arith
 form_is (l ∷ rest) =
     let P : Option Form → Type 0 = λ o. Parsed (l ∷ rest) o in
     cond_both (eqb l 69) _ _ P
-    (λ e. at_letter l 69 rest _ e (twice_is 69 rest (λ u v. Enter (record { from = u; to = v })) (two_of rest) (λ u v a b q. ((a, (b, tt)), ap (λ xs. 69 ∷ xs) q))
+    (λ e. at_letter l 69 rest _ e (twice_is 69 rest (λ p. Enter (record { from = p.0; to = p.1 })) (two_of rest) (λ u v a b q. ((a, (b, tt)), ap (λ xs. 69 ∷ xs) q))
     (λ n. no_form 69 rest (λ z. n) (λ z. n) (λ z. absurd (omega arith)) (λ z. n) (λ z. n) (λ z. absurd (omega arith))) (two_is rest)))
     (λ e1. cond_both (eqb l 83) _ _ P
-    (λ e. at_letter l 83 rest _ e (twice_is 83 rest (λ u v. Strike (record { from = u; to = v })) (two_of rest) (λ u v a b q. ((a, (b, tt)), ap (λ xs. 83 ∷ xs) q))
+    (λ e. at_letter l 83 rest _ e (twice_is 83 rest (λ p. Strike (record { from = p.0; to = p.1 })) (two_of rest) (λ u v a b q. ((a, (b, tt)), ap (λ xs. 83 ∷ xs) q))
     (λ n. no_form 83 rest (λ z. n) (λ z. n) (λ z. absurd (omega arith)) (λ z. n) (λ z. n) (λ z. absurd (omega arith))) (two_is rest)))
     (λ e2. cond_both (eqb l 73) _ _ P (λ e. at_letter l 73 rest _ e (bare_is rest))
     (λ e3. cond_both (eqb l 72) _ _ P
-    (λ e. at_letter l 72 rest _ e (twice_is 72 rest (λ u v. Hold u v) (two_of rest) (λ u v a b q. ((a, (b, tt)), ap (λ xs. 72 ∷ xs) q))
+    (λ e. at_letter l 72 rest _ e (twice_is 72 rest (λ p. Hold p.0 p.1) (two_of rest) (λ u v a b q. ((a, (b, tt)), ap (λ xs. 72 ∷ xs) q))
     (λ n. no_form 72 rest (λ z. n) (λ z. n) (λ z. absurd (omega arith)) (λ z. n) (λ z. n) (λ z. absurd (omega arith))) (two_is rest)))
     (λ e4. cond_both (eqb l 82) _ _ P
-    (λ e. at_letter l 82 rest _ e (twice_is 82 rest (λ u v. Release u v) (two_of rest) (λ u v a b q. ((a, (b, tt)), ap (λ xs. 82 ∷ xs) q))
+    (λ e. at_letter l 82 rest _ e (twice_is 82 rest (λ p. Release p.0 p.1) (two_of rest) (λ u v a b q. ((a, (b, tt)), ap (λ xs. 82 ∷ xs) q))
     (λ n. no_form 82 rest (λ z. n) (λ z. n) (λ z. absurd (omega arith)) (λ z. n) (λ z. n) (λ z. absurd (omega arith))) (two_is rest)))
     (λ e5. cond_both (eqb l 67) _ _ P
     (λ e. at_letter l 67 rest _ e (once_is 67 rest (λ m. Order m) (one_of rest) (λ v a q. ((a, tt), ap (λ xs. 67 ∷ xs) q))

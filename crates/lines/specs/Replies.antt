@@ -1,6 +1,6 @@
 -- The replies to a line: their texts, what they stand for, and what writing one comes to.
 use Rattle.std.specs.Prelude.{◌≡◌, ℕ, ◌<◌, ◌≤◌, Bool, true, false, List, ◌++◌, length, Some, None, Ok, Err, codes, decimal, Option, Result}
-use Rattle.std.specs.Option.{option_map}
+use Rattle.std.specs.Option.{option_map, option_and_then}
 use Rattle.std.specs.Result.{result_err}
 use Rattle.text.specs.Placing.{placed}
 use Rattle.history.specs.Answers.{Answer, Told}
@@ -49,18 +49,13 @@ named (Ok Carve) = None
 named (Ok (Stop s)) = Some s.model
 named (Err f) = None
 
--- what a fault brings, if there is one
-abbrev pub brought : Option LineFault → Option (ℕ × ℕ)
-brought None = None
-brought (Some f) = values f
-
 -- a stop names a number of 16 bits
 abbrev pub Nameable : Reply → Type 0
 Nameable r = (m : ℕ) → named r ≡ Some m → m < 65536
 
 -- what a reply stands for
 abbrev pub told : Reply → Told
-told r = record { number = option_map number (refused r); values = brought (refused r); carved = carved r; named = named r }
+told r = record { number = option_map number (refused r); values = option_and_then values (refused r); carved = carved r; named = named r }
 
 -- the line stands at the front and all behind it is as it was; under 16 bytes nothing is touched
 abbrev pub Replied : List ℕ → List ℕ → Option ℕ → List ℕ → Type 0
