@@ -1,8 +1,8 @@
 -- Calls and files of worked days, and what they are answered with. Assumes nothing.
-use Rattle.std.specs.Prelude.{ℕ, List, [], ◌∷◌, ◌++◌, map, reverse, codes}
+use Rattle.std.specs.Prelude.{ℕ, List, [], ◌∷◌, ◌++◌, map, reverse, Ok, codes}
 use Rattle.index.specs.Builds.{rule}
-use Rattle.history.specs.declared.answer.Answer.{Answer}
-use Rattle.history.specs.declared.answer.Answer.TheVariants.{Done, Carve, Stop}
+use Rattle.history.specs.declared.answer.Outcome.TheVariants.{Done, Carve, Stop}
+use Rattle.history.specs.Answers.{Answer}
 use Rattle.history.specs.declared.call.Call.{Call}
 use Rattle.history.specs.declared.call.Call.TheVariants.{Enter, Index, Hold, Order}
 use Rattle.history.specs.Made.{made}
@@ -18,7 +18,7 @@ answers n capacity calls = reverse (map (λ c. c.1) (made n (rule capacity) (rev
 
 -- a stop that names the model m
 abbrev pub stop : ℕ → Answer
-stop m = Stop (record { model = m })
+stop m = Ok (Stop (record { model = m }))
 
 -- the entries of the book of eight models
 abbrev pub eight_entries : List Call
@@ -30,7 +30,7 @@ eight_calls = eight_entries ++ (Index 32768 ∷ Hold 5 1 ∷ Order 7 ∷ Order 6
 
 -- their answers; the ten entries are done
 abbrev pub eight_answers : List Answer
-eight_answers = map (λ d. Done) derived ++ (Done ∷ Done ∷ stop 5 ∷ stop 5 ∷ Carve ∷ Done ∷ stop 2 ∷ [])
+eight_answers = map (λ d. Ok Done) derived ++ (Ok Done ∷ Ok Done ∷ stop 5 ∷ stop 5 ∷ Ok Carve ∷ Ok Done ∷ stop 2 ∷ [])
 
 -- the book file of the eight models
 abbrev pub eight_file : List ℕ
