@@ -3,8 +3,9 @@
 #![tactic(auto)]
 
 use folder::answers::answers;
-use folder::reading;
+use folder::files::Files;
 use lines::reading::Lines;
+use lines::reading::counting::count_lines;
 use orderfile::laws::days_agree;
 use search::plain::PlainSearch;
 use std::io;
@@ -16,53 +17,32 @@ struct Comparison {
     first_difference: Option<usize>,
 }
 
-impl Comparison {
-    // One more line, at a place from 1.
-    fn with(self, place: usize, agrees: bool) -> Comparison {
-        if agrees {
-            return Comparison {
-                agreeing: self.agreeing.saturating_add(1),
-                first_difference: self.first_difference,
-            };
-        }
-        match self.first_difference {
-            Some(_) => self,
-            None => Comparison {
-                agreeing: self.agreeing,
-                first_difference: Some(place),
-            },
-        }
-    }
-}
-
 fn compare(first: &[u8], second: &[u8]) -> Comparison {
-    let mut ones = Lines::new(first);
-    let mut others = Lines::new(second);
-    let mut comparison = Comparison {
-        agreeing: 0,
-        first_difference: None,
-    };
-    for _ in 0..first.len().max(second.len()) {
-        comparison = match (ones.next(), others.next()) {
-            (Some(one), Some(other)) => comparison.with(one.place(), one.bytes() == other.bytes()),
-            (Some(one), None) => comparison.with(one.place(), false),
-            (None, Some(other)) => comparison.with(other.place(), false),
-            (None, None) => return comparison,
-        };
+    let agreeing = Lines::new(first)
+        .zip(Lines::new(second))
+        .filter(|(one, other)| one.bytes() == other.bytes())
+        .fold(0usize, |many, _| many.saturating_add(1));
+    // where one print ends, each further line of the other differs
+    let shorter = count_lines(first).min(count_lines(second));
+    let longer = count_lines(first).max(count_lines(second));
+    let first_difference = Lines::new(first)
+        .zip(Lines::new(second))
+        .position(|(one, other)| one.bytes() != other.bytes())
+        .or((shorter < longer).then_some(shorter))
+        .map(|before| before.saturating_add(1));
+    Comparison {
+        agreeing,
+        first_difference,
     }
-    comparison
 }
 
 fn main(rt: HostRuntime) -> io::Result<()> {
-    let heap = rt.alloc();
-    let book = reading::read(&rt, "book.bin", reading::book_bytes())?;
-    let orders = reading::read(&rt, "orders.txt", reading::order_bytes())?;
-    let first = answers(heap, PlainSearch::new(), book.as_slice(), orders.as_slice())?;
-    let second = answers(heap, PlainSearch::new(), book.as_slice(), orders.as_slice())?;
+    let files = Files::read(&rt, "book.bin", "orders.txt")?;
+    let first = answers(rt.alloc(), PlainSearch::new(), files.day())?;
+    let second = answers(rt.alloc(), PlainSearch::new(), files.day())?;
     days_agree(); // the theorem: no line differs, unless an indexing is refused for surplus
     let comparison = compare(first.as_slice(), second.as_slice());
-    let agreeing = comparison.agreeing;
-    println!(rt; "{agreeing} lines agree")?;
+    println!(rt; "{} lines agree", comparison.agreeing)?;
     match comparison.first_difference {
         None => println!(rt; "none differs"),
         Some(place) => println!(rt; "line {place} differs first"),

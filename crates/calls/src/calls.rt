@@ -1,12 +1,12 @@
 //! Runs calls on a shop: the lengths of a work space, two kinds side by side, and the room that a day asks for.
-use anyhow::anyhow;
+use anyhow::bail;
 use book::count::Count;
 use book::derivation::Derivation;
-use history::answer::Answer;
+use history::answer::{Answer, Outcome};
 use history::call::Call;
 use index::kind::WORK;
-use lines::reply::{Reply, write_reply};
-use orderfile::day::answer_day;
+use lines::reply::{reply_of, write_reply};
+use orderfile::day::{Day, answer_day};
 use search::plain::PlainSearch;
 use shop::runs::compare;
 
@@ -29,10 +29,9 @@ const CALLS: [Call; 8] = [
 fn show(rt: &HostRuntime, answers: &[Answer]) -> anyhow::Result<()> {
     for answer in answers {
         let mut line = [0u8; 16];
-        if let Some(len) = write_reply(&mut line, Reply::from(*answer))
-            && len <= 16
-        {
-            print!(rt; "{}", std::str::from_utf8(&line[0..len])?)?;
+        let len = write_reply(&mut line, reply_of(*answer)).unwrap_or(0);
+        if let Some(text) = line.get(..len) {
+            print!(rt; "{}", std::str::from_utf8(text)?)?;
         }
     }
     Ok(())
@@ -40,45 +39,48 @@ fn show(rt: &HostRuntime, answers: &[Answer]) -> anyhow::Result<()> {
 
 // The same calls over two kinds of index, of which there is one as yet.
 pub fn run_calls(rt: &HostRuntime) -> anyhow::Result<()> {
+    let Ok(count) = Count::new(2) else {
+        bail!("2 models are refused");
+    };
     let mut work = vec![in rt.alloc(); 0u16; WORK]?;
-    let mut answers = [Answer::Done; 8];
-    let mut others = [Answer::Done; 8];
-    match Count::new(2) {
-        Err(_) => Err(anyhow!("2 models are refused")),
-        Ok(count) => {
-            let made = compare(
-                count,
-                PlainSearch::new(),
-                PlainSearch::new(),
-                &CALLS,
-                work.as_mut_slice(),
-                &mut answers,
-                &mut others,
-            );
-            println!(rt; "calls made: {made}")?;
-            if made > 8 {
-                return Err(anyhow!("more answers than places"));
-            }
-            show(rt, &answers[0..made])?;
-            println!(rt; "over the other kind:")?;
-            show(rt, &others[0..made])
-        }
-    }
+    let mut answers = [Ok(Outcome::Done); 8];
+    let mut others = [Ok(Outcome::Done); 8];
+    let made = compare(
+        count,
+        PlainSearch::new(),
+        PlainSearch::new(),
+        &CALLS,
+        work.as_mut_slice(),
+        &mut answers,
+        &mut others,
+    );
+    println!(rt; "calls made: {made}")?;
+    let (Some(answers), Some(others)) = (answers.get(..made), others.get(..made)) else {
+        bail!("more answers than places");
+    };
+    show(rt, answers)?;
+    println!(rt; "over the other kind:")?;
+    show(rt, others)
 }
 
-// How many bytes a day of one line is answered in, or the number of the refusal.
-fn answer_into(work: &mut [u16], out: &mut [u8]) -> usize {
-    match answer_day(PlainSearch::new(), &[1, 0, 0, 0], b"C 0", work, out) {
-        Ok(len) => len,
-        Err(refusal) => refusal.number() as usize,
-    }
-}
-
-// One line asks for 16 bytes.
+// A day of one line: it asks for 16 bytes.
 pub fn run_room(rt: &HostRuntime) -> anyhow::Result<()> {
+    let day = Day {
+        book: &[1, 0, 0, 0],
+        orders: b"C 0",
+    };
     let mut work = vec![in rt.alloc(); 0u16; WORK]?;
-    let refused = answer_into(work.as_mut_slice(), &mut [0u8; 15]);
-    let len = answer_into(work.as_mut_slice(), &mut [0u8; 16]);
-    println!(rt; "a line into 15 bytes: {refused}, into 16: {len}")?;
+    let mut out = [0u8; 16];
+    let Err(refusal) = answer_day(PlainSearch::new(), day, work.as_mut_slice(), &mut out[..15])
+    else {
+        bail!("15 bytes are enough");
+    };
+    let Ok(len) = answer_day(PlainSearch::new(), day, work.as_mut_slice(), &mut out) else {
+        bail!("16 bytes are too few");
+    };
+    println!(rt;
+        "a line into 15 bytes: {}, into 16: {len}",
+        refusal.number()
+    )?;
     Ok(())
 }

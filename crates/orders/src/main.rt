@@ -2,15 +2,13 @@
 #![tactic(auto)]
 
 use folder::answers::answers;
-use folder::reading;
+use folder::files::Files;
 use search::plain::PlainSearch;
 use std::io;
 use std::io::Write;
 
 fn main(rt: HostRuntime) -> io::Result<()> {
-    let book = reading::read(&rt, "book.bin", reading::book_bytes())?;
-    let orders = reading::read(&rt, "orders.txt", reading::order_bytes())?;
-    let index = PlainSearch::new();
-    let printed = answers(rt.alloc(), index, book.as_slice(), orders.as_slice())?;
+    let files = Files::read(&rt, "book.bin", "orders.txt")?;
+    let printed = answers(rt.alloc(), PlainSearch::new(), files.day())?;
     rt.stdout().write_all(printed.as_slice())
 }

@@ -1,25 +1,18 @@
 //! Prints the book file `book.bin` of the folder that it is started in, and how many models descend from each.
 #![tactic(auto)]
 
-ghost use Rattle.std.specs.Prelude.{◌≡◌, ◌++◌, IfOk, string_bytes, codes, decimal};
+ghost use Rattle.std.specs.Prelude.{◌≡◌, cond, [], ◌++◌, IfOk, string_bytes, codes, decimal};
 ghost use Rattle.bookfile.specs.Refusals.{number};
 
 use book::derivation::Derivation;
 use book::kept::Book;
 use bookfile::checked::checking::check;
 use bookfile::refusal::FileRefusal;
+use folder::reading;
 use index::kind::{Index, WORK};
 use search::plain::PlainSearch;
 use std::alloc::{AllocError, Global};
-use std::{fs, io};
-
-// The bytes of a file, none if it is missing.
-fn read(rt: &HostRuntime, path: &str) -> io::Result<Vec<u8>> {
-    match fs::read(rt, path) {
-        Err(error) if error.kind() == io::ErrorKind::NotFound => Ok(Vec::new(rt.alloc())),
-        read => read,
-    }
-}
+use std::io;
 
 // The first line: how many models and derivations there are.
 fn sizes(heap: Global, models: u16, derivations: usize) -> Result<String, AllocError>
@@ -32,31 +25,22 @@ fn sizes(heap: Global, models: u16, derivations: usize) -> Result<String, AllocE
 fn line(heap: Global, derivation: Derivation) -> Result<String, AllocError>
     ensures { IfOk result (λ s. string_bytes s ≡ decimal derivation.from ++ (codes " -> " ++ decimal derivation.to)) }
 {
-    let from = derivation.from;
-    let to = derivation.to;
-    format!(in heap; "{from} -> {to}")
+    format!(in heap; "{} -> {}", derivation.from, derivation.to)
 }
 
 // The line of a refusal.
 fn refused(heap: Global, refusal: FileRefusal) -> Result<String, AllocError>
     ensures { IfOk result (λ s. string_bytes s ≡ codes "book " ++ decimal (number refusal)) }
 {
-    let number = refusal.number();
-    format!(in heap; "book {number}")
+    format!(in heap; "book {}", refusal.number())
 }
 
 // The line of a model from which others descend.
-fn descent(heap: Global, model: u16, many: u16) -> Result<String, AllocError>
-    ensures { IfOk result (λ s. string_bytes s ≡ codes "model " ++ (decimal model ++ (codes ": descendants " ++ decimal many))) }
+fn descent(heap: Global, model: u16, many: u16, in_circle: bool) -> Result<String, AllocError>
+    ensures { IfOk result (λ s. string_bytes s ≡ codes "model " ++ (decimal model ++ (codes ": descendants " ++ (decimal many ++ cond in_circle (codes ", in a circle") [])))) }
 {
-    format!(in heap; "model {model}: descendants {many}")
-}
-
-// The same of a model that stands in a circle.
-fn circle(heap: Global, model: u16, many: u16) -> Result<String, AllocError>
-    ensures { IfOk result (λ s. string_bytes s ≡ codes "model " ++ (decimal model ++ (codes ": descendants " ++ (decimal many ++ codes ", in a circle")))) }
-{
-    format!(in heap; "model {model}: descendants {many}, in a circle")
+    let circle = if in_circle { ", in a circle" } else { "" };
+    format!(in heap; "model {model}: descendants {many}{circle}")
 }
 
 // The sizes and the derivations.
@@ -71,16 +55,11 @@ fn show_book(rt: &HostRuntime, book: &Book) -> io::Result<()> {
 
 // Each model from which others descend.
 fn show_descent(rt: &HostRuntime, models: u16, search: &PlainSearch) -> io::Result<()> {
-    let heap = rt.alloc();
     for model in 0..models {
         let many = search.descendants(model);
         if many > 0 {
-            let text = if search.in_circle(model) {
-                circle(heap, model, many)?
-            } else {
-                descent(heap, model, many)?
-            };
-            rt.println(text)?;
+            let in_circle = search.in_circle(model);
+            rt.println(descent(rt.alloc(), model, many, in_circle)?)?;
         }
     }
     Ok(())
@@ -92,20 +71,19 @@ fn show(rt: &HostRuntime, book: &Book) -> io::Result<()> {
     let mut search = PlainSearch::new();
     match search.build(book, work.as_mut_slice()) {
         Ok(()) => show_descent(rt, book.count().models(), &search),
-        Err(fault) => {
-            let number = fault.number();
-            println!(rt; "index {number}")
-        }
+        Err(fault) => println!(rt; "index {}", fault.number()),
     }
 }
 
+// The book that a file's bytes say.
+fn open(bytes: &[u8]) -> Result<Book, FileRefusal> {
+    Ok(check(bytes)?.to_book()?)
+}
+
 fn main(rt: HostRuntime) -> io::Result<()> {
-    let bytes = read(&rt, "book.bin")?;
-    match check(bytes.as_slice()) {
+    let bytes = reading::read(&rt, "book.bin", reading::book_bytes())?;
+    match open(bytes.as_slice()) {
+        Ok(book) => show(&rt, &book),
         Err(refusal) => rt.println(refused(rt.alloc(), refusal)?),
-        Ok(file) => match file.to_book() {
-            Err(refusal) => rt.println(refused(rt.alloc(), FileRefusal::Book(refusal))?),
-            Ok(book) => show(&rt, &book),
-        },
     }
 }

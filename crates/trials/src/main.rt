@@ -4,11 +4,13 @@
 
 use anyhow::anyhow;
 use folder::answers::answers;
-use folder::reading;
+use folder::files::Files;
+use lines::reading::Lines;
 use lines::reading::counting::count_lines;
+use orderfile::day::Day;
 use search::plain::PlainSearch;
 use std::alloc::Global;
-use std::fs;
+use std::{fmt, fs};
 
 // The bytes of a text in hexadecimal.
 fn bytes_of(heap: Global, text: &str) -> anyhow::Result<Vec<u8>> {
@@ -28,7 +30,7 @@ fn bytes_of(heap: Global, text: &str) -> anyhow::Result<Vec<u8>> {
 }
 
 // How many answer lines begin with each word, and a sum over all bytes.
-#[derive(Clone, Copy)]
+#[derive(Clone, Copy, Default)]
 struct Tally {
     ok: usize,
     carve: usize,
@@ -37,50 +39,65 @@ struct Tally {
     sum: u64,
 }
 
-// A byte's part of the sum, by its place.
-fn weighed(byte: u8, place: usize) -> u64 {
-    byte as u64 * (1 + place as u64 % 251)
+impl Tally {
+    // With one more answer line: its first byte tells its word.
+    fn with(self, line: &[u8]) -> Tally {
+        match line.first() {
+            Some(b'o') => Tally {
+                ok: self.ok.saturating_add(1),
+                ..self
+            },
+            Some(b'c') => Tally {
+                carve: self.carve.saturating_add(1),
+                ..self
+            },
+            Some(b's') => Tally {
+                stop: self.stop.saturating_add(1),
+                ..self
+            },
+            Some(b'n') => Tally {
+                no: self.no.saturating_add(1),
+                ..self
+            },
+            _ => self,
+        }
+    }
+
+    // What the answers come to in all.
+    fn of(printed: &[u8]) -> Tally {
+        let mut tally = Tally {
+            sum: weighed(printed),
+            ..Tally::default()
+        };
+        for line in Lines::new(printed) {
+            tally = tally.with(line.bytes());
+        }
+        tally
+    }
 }
 
-// What the answers come to in all: the first byte of each line tells its word.
-fn summed(printed: &[u8]) -> Tally {
-    let mut tally = Tally {
-        ok: 0,
-        carve: 0,
-        stop: 0,
-        no: 0,
-        sum: 0,
-    };
-    let mut starts = true;
-    for (place, byte) in printed.iter().enumerate() {
-        if starts {
-            match *byte as char {
-                'o' => tally.ok = tally.ok.saturating_add(1),
-                'c' => tally.carve = tally.carve.saturating_add(1),
-                's' => tally.stop = tally.stop.saturating_add(1),
-                'n' => tally.no = tally.no.saturating_add(1),
-                _ => {}
-            }
-        }
-        starts = *byte == b'\n';
-        tally.sum = tally.sum.saturating_add(weighed(*byte, place));
+impl fmt::Display for Tally {
+    fn fmt<W: fmt::Write>(&self, f: &mut fmt::Formatter<W>) -> fmt::Result {
+        write!(
+            f,
+            "ok {}, carve {}, stop {}, no {}, sum {}",
+            self.ok, self.carve, self.stop, self.no, self.sum
+        )
     }
-    tally
+}
+
+// A sum over the bytes, each by its place.
+fn weighed(bytes: &[u8]) -> u64 {
+    bytes.iter().enumerate().fold(0, |sum: u64, (place, byte)| {
+        sum.saturating_add(u64::from(*byte) * (1 + place as u64 % 251))
+    })
 }
 
 // Few answers are printed as they are, many by their tally.
 fn show(rt: &HostRuntime, name: &str, printed: &[u8]) -> anyhow::Result<()> {
     let lines = count_lines(printed);
     if lines > 40 {
-        let tally = summed(printed);
-        let ok = tally.ok;
-        let carve = tally.carve;
-        let stop = tally.stop;
-        let no = tally.no;
-        let sum = tally.sum;
-        println!(rt;
-            "{name}: {lines} lines, ok {ok}, carve {carve}, stop {stop}, no {no}, sum {sum}"
-        )?;
+        println!(rt; "{name}: {lines} lines, {}", Tally::of(printed))?;
         return Ok(());
     }
     println!(rt; "{name}:")?;
@@ -101,34 +118,28 @@ fn answer(rt: &HostRuntime, case: &str) -> anyhow::Result<()> {
     };
     let book = bytes_of(heap, book)?;
     let orders = bytes_of(heap, orders)?;
-    let printed = answers(heap, PlainSearch::new(), book.as_slice(), orders.as_slice())?;
+    let day = Day {
+        book: book.as_slice(),
+        orders: orders.as_slice(),
+    };
+    let printed = answers(heap, PlainSearch::new(), day)?;
     show(rt, name, printed.as_slice())
 }
 
 // Answers the day of two files of the folder.
 fn answer_files(rt: &HostRuntime, name: &str, book: &str, orders: &str) -> anyhow::Result<()> {
-    let book = reading::read(rt, book, reading::book_bytes())?;
-    let orders = reading::read(rt, orders, reading::order_bytes())?;
-    let printed = answers(
-        rt.alloc(),
-        PlainSearch::new(),
-        book.as_slice(),
-        orders.as_slice(),
-    )?;
+    let files = Files::read(rt, book, orders)?;
+    let printed = answers(rt.alloc(), PlainSearch::new(), files.day())?;
     show(rt, name, printed.as_slice())
 }
 
-fn run(rt: &HostRuntime) -> anyhow::Result<()> {
-    let cases = fs::read_to_string(rt, "cases.txt")?;
-    for case in cases.as_str().lines() {
-        answer(rt, case)?;
-    }
-    answer_files(rt, "files of the folder", "book.bin", "orders.txt")?;
-    answer_files(rt, "order file is missing", "book.bin", "missing.txt")?;
-    answer_files(rt, "book file is missing", "missing.bin", "orders.txt")?;
-    answer_files(rt, "both files are missing", "missing.bin", "missing.txt")
-}
-
 fn main(rt: HostRuntime) -> anyhow::Result<()> {
-    run(&rt)
+    let cases = fs::read_to_string(&rt, "cases.txt")?;
+    for case in cases.as_str().lines() {
+        answer(&rt, case)?;
+    }
+    answer_files(&rt, "files of the folder", "book.bin", "orders.txt")?;
+    answer_files(&rt, "order file is missing", "book.bin", "missing.txt")?;
+    answer_files(&rt, "book file is missing", "missing.bin", "orders.txt")?;
+    answer_files(&rt, "both files are missing", "missing.bin", "missing.txt")
 }

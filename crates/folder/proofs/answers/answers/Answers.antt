@@ -14,7 +14,7 @@ returns g c =
     let long : length c.as_mut_slice-2.result.now ≡ c.in_ok-out.out.len = c.as_mut_slice-2.ensures.len in
     let fits = told.2 in
     let low : c.in-Ok.len ≤ c.in_ok-out.out.len = omega arith in
-    let text = printed g.I.Index.CAPACITY (length c.as_mut_slice.result.now) c.args.book.now c.args.orders.now in
+    let text = printed g.I.Index.CAPACITY (length c.as_mut_slice.result.now) c.args.day.book.now c.args.day.orders.now in
     c.truncate.ensures.items
     ∙ front_placed text c.as_mut_slice-2.result.now c.answer_day.new.out _ c.in-Ok.len c.in_ok-out.out.len told.1 low told.3
-    ∙ ap (λ (k : ℕ). printed g.I.Index.CAPACITY k c.args.book.now c.args.orders.now) full
+    ∙ ap (λ (k : ℕ). printed g.I.Index.CAPACITY k c.args.day.book.now c.args.day.orders.now) full
