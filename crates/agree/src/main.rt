@@ -27,9 +27,9 @@ fn compare(first: &[u8], second: &[u8]) -> Comparison {
     let longer = count_lines(first).max(count_lines(second));
     let first_difference = Lines::new(first)
         .zip(Lines::new(second))
-        .position(|(one, other)| one.bytes() != other.bytes())
-        .or((shorter < longer).then_some(shorter))
-        .map(|before| before.saturating_add(1));
+        .find(|(one, other)| one.bytes() != other.bytes())
+        .map(|(one, _)| one.place())
+        .or((shorter < longer).then_some(shorter.saturating_add(1)));
     Comparison {
         agreeing,
         first_difference,

@@ -12,6 +12,7 @@ pub mod changing;
 pub mod reading;
 
 /// At most 2,048 derivations between the models of a count: the first `len` of the places, rising.
+/// The places are an array, and not an array vector, since the ordered list is lent the room behind it too.
 /// The book is stale until it is marked as indexed, and again after each change.
 #[derive(Drop)]
 pub struct Book {

@@ -28,8 +28,8 @@ impl Refusal {
 impl From<NotAdded> for Refusal {
     ghost from_gives = { λ e r. r ≡ not_added e };
 
-    fn from(told: NotAdded) -> Refusal {
-        match told {
+    fn from(refusal: NotAdded) -> Refusal {
+        match refusal {
             NotAdded::StandsAlready => Refusal::StandsAlready,
             NotAdded::Full => Refusal::BookFull,
         }
@@ -39,7 +39,7 @@ impl From<NotAdded> for Refusal {
 impl From<NotThere> for Refusal {
     ghost from_gives = { λ _ r. r ≡ DoesNotStand };
 
-    fn from(_told: NotThere) -> Refusal {
+    fn from(_refusal: NotThere) -> Refusal {
         Refusal::DoesNotStand
     }
 }

@@ -1,5 +1,5 @@
 //! The sheet and its records.
-ghost use Rattle.std.specs.Prelude.{◌≡◌, true};
+ghost use Rattle.std.specs.Prelude.{◌≡◌, ◌≤◌, true, length};
 ghost use Rattle.holds.specs.Holds.{apart};
 
 use arrayvec::ArrayVec;
@@ -18,5 +18,6 @@ pub struct Hold {
 #[derive(Drop)]
 pub struct HoldSheet {
     holds: ArrayVec<Hold, 64>,
+    ghost few: { length holds.items ≤ 64 },
     ghost apart: { apart holds.items ≡ true },
 }

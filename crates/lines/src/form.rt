@@ -5,7 +5,7 @@ ghost use Rattle.lines.specs.Forms.{call_of};
 use book::derivation::Derivation;
 use history::call::Call;
 
-/// A call with its numbers, and no work space: that is not written in a line.
+/// A call with its numbers, and no work space: that is not written in a line. Of one type with `Call`, the line `I` would be `Index { work: () }`.
 #[derive(Clone, Copy, Debug, PartialEq, Eq)]
 pub enum Form {
     Enter(Derivation),

@@ -9,6 +9,9 @@ use text::writing::{write_bytes, write_numbered};
 /// What a line is answered: what its call comes to, or the fault that the line is refused with.
 pub type Reply = Result<Outcome, LineFault>;
 
+/// The room that a reply asks for: no line that answers is longer.
+pub const REPLY_ROOM: usize = 16;
+
 /// The reply that an answer of a shop comes to.
 pub fn reply_of(answer: Answer) -> Reply
     ensures { result ≡ reply_of answer }
@@ -20,7 +23,7 @@ pub fn reply_of(answer: Answer) -> Reply
 pub fn write_reply(out: &mut [u8], reply: Reply) -> Option<usize>
     ensures { Replied (reply_text reply) out.old result out.new }
 {
-    if out.len() < 16 {
+    if out.len() < REPLY_ROOM {
         return None;
     }
     match reply {

@@ -7,7 +7,7 @@ use index::kind::Index;
 use lines::fault::LineFault;
 use lines::parsing::parse;
 use lines::reading::Line;
-use lines::reply::{Reply, reply_of, write_reply};
+use lines::reply::{REPLY_ROOM, Reply, reply_of, write_reply};
 use shop::running::Shop;
 
 /// Where and why a line was refused.
@@ -29,10 +29,10 @@ fn respond<I: Index>(shop: &mut Shop<I>, line: &[u8], work: &mut [u16]) -> Reply
     ensures { Responds I.Index.meaning I.Index.refuses shop.old (length work.old) (form_of line.now) result shop.new }
 {
     let form = parse(line).ok_or(LineFault::NoForm)?;
-    match shop.serve(form.call(work.len()), work) {
-        Some(answer) => reply_of(answer),
-        None => unreachable(), // no more is asked for than is lent
-    }
+    let Some(answer) = shop.serve(form.call(work.len()), work) else {
+        unreachable(); // no more is asked for than is lent
+    };
+    reply_of(answer)
 }
 
 // The refusal in a reply, with the place of its line.
@@ -54,11 +54,10 @@ pub fn answer_line<I: Index>(
     ensures short { length out.old < 16 → TooShort I.Index.meaning I.Index.refuses shop.old line.now out.old result shop.new out.new }
 {
     let place = line.place();
-    if out.len() < 16 {
-        let fault = LineFault::OutputTooShort;
+    if out.len() < REPLY_ROOM {
         return AnsweredLine {
             len: 0,
-            refused: Some(RefusedLine { place, fault }),
+            refused: refused_at(place, Err(LineFault::OutputTooShort)),
         };
     }
     let reply = respond(shop, line.bytes(), work);

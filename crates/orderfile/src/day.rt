@@ -12,6 +12,7 @@ use bookfile::refusal::{FileRefusal, WriteRefusal};
 use index::kind::Index;
 use lines::reading::Lines;
 use lines::reading::counting::count_lines;
+use lines::reply::REPLY_ROOM;
 use shop::loading::load;
 use shop::running::Shop;
 use text::writing::write_numbered;
@@ -83,10 +84,10 @@ fn write_fault(out: &mut [u8], fault: DayFault) -> usize
     ensures bytes { out.new ≡ placed out.old 0 (fault_text fault) }
     ensures short { result ≤ 16 }
 {
-    match write_numbered(out, fault.word(), fault.number() as u16) {
-        Some(len) => len,
-        None => unreachable(),
-    }
+    let Some(len) = write_numbered(out, fault.word(), fault.number() as u16) else {
+        unreachable();
+    };
+    len
 }
 
 // Answers the lines in turn, for which there is room, and tells how many bytes the replies have.
@@ -119,7 +120,7 @@ pub fn answer_day<I: Index + Drop>(
     ensures law { Lawfully I.Index.CAPACITY (length work.old) day.entry.book.now day.entry.orders.now }
 {
     let lines = count_lines(day.orders);
-    if out.len() < 16 || out.len() / 16 < lines {
+    if out.len() < REPLY_ROOM || out.len() / REPLY_ROOM < lines {
         return Err(WriteRefusal::TooShort);
     }
     Ok(match open_day(index, day) {

@@ -22,6 +22,7 @@ pub enum NotAdded {
 pub struct NotThere;
 
 // Where `key` stands among `keys`, or else where it would go, by halving.
+// The library's search promises nothing of keys that do not rise, and `find` promises what this one finds there.
 fn seek<K: Key>(keys: &[K], key: K) -> Result<usize, usize>
     ensures within { IsSearchInRange result (length keys.now) }
     ensures halving { result ≡ halving K.cmp keys.now key }
@@ -75,7 +76,7 @@ pub(crate) fn find_front<K: Key>(keys: &[K], len: usize, key: K) -> Option<usize
     find(keys.get(..len)?, key)
 }
 
-// Where `key` would go among the first `len` of `keys`, which have room for it.
+// Where `key` would go among the first `len` of `keys`, if it does not stand and there is room.
 fn gap<K: Key>(keys: &[K], len: usize, key: K) -> Result<usize, NotAdded>
     ensures within { IfOk result (λ at. at ≤ len) }
     ensures gap { Gap K.cmp keys.now len key result }

@@ -7,7 +7,7 @@ use crate::key::Key;
 use crate::lent;
 use crate::lent::{NotAdded, NotThere};
 
-/// The first `len` of `keys` are the list.
+/// The first `len` of `keys` are the list. The memory is lent, and the room behind the list is lent with it.
 #[derive(Drop)]
 pub struct OrderedList<'a, K: Key> {
     pub keys: &'a mut [K],

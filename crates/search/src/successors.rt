@@ -8,7 +8,7 @@ pub mod reading;
 mod rows;
 mod walk;
 
-/// The models that were taken from model `u` are `targets[starts[u]..starts[u + 1]]`.
+/// The models that were taken from model `u` are `targets[starts[u]..starts[u + 1]]`: one block for all rows, without a heap.
 #[derive(Drop)]
 pub struct Successors {
     models: u16,

@@ -24,6 +24,7 @@ pub fn run<I: Index + Drop>(
 {
     let mut shop = Shop::open(count, index);
     let most = calls.len().min(answers.len());
+    // by place: what a loop over `iter_mut` wrote has no name in its invariant
     for (made, call) in calls[..most].iter().enumerate() {
         match shop.serve(*call, work) {
             Some(answer) => answers[made] = answer,

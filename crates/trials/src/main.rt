@@ -2,7 +2,7 @@
 //! A case is a line `NAME: BOOK / ORDERS`: the bytes of the two files in hexadecimal with spaces between them, `xx*N` for a byte N times.
 #![tactic(auto)]
 
-use anyhow::anyhow;
+use anyhow::bail;
 use folder::answers::answers;
 use folder::files::Files;
 use lines::reading::Lines;
@@ -65,14 +65,11 @@ impl Tally {
 
     // What the answers come to in all.
     fn of(printed: &[u8]) -> Tally {
-        let mut tally = Tally {
+        let tally = Tally {
             sum: weighed(printed),
             ..Tally::default()
         };
-        for line in Lines::new(printed) {
-            tally = tally.with(line.bytes());
-        }
-        tally
+        Lines::new(printed).fold(tally, |tally, line| tally.with(line.bytes()))
     }
 }
 
@@ -111,10 +108,10 @@ fn show(rt: &HostRuntime, name: &str, printed: &[u8]) -> anyhow::Result<()> {
 fn answer(rt: &HostRuntime, case: &str) -> anyhow::Result<()> {
     let heap = rt.alloc();
     let Some((name, files)) = case.split_once(':') else {
-        return Err(anyhow!("a case has no name"));
+        bail!("a case has no name");
     };
     let Some((book, orders)) = files.split_once('/') else {
-        return Err(anyhow!("a case has no order file"));
+        bail!("a case has no order file");
     };
     let book = bytes_of(heap, book)?;
     let orders = bytes_of(heap, orders)?;

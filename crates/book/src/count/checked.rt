@@ -21,7 +21,7 @@ impl Count {
     pub fn models(self) -> u16
         ensures { result ≡ models self }
     {
-        self.models // the last model is numbered one less
+        self.models
     }
 
     /// Refuses a model that is not below the count.

@@ -9,6 +9,7 @@ pub fn copy_targets(derivations: &[Derivation], targets: &mut [u16])
     requires { length derivations.now ≤ length targets.old }
     ensures { (k : ℕ) → k < length derivations.now → slice_index targets.new k ≡ (at derivations.now k).to }
 {
+    // by place: what a loop over `iter_mut` wrote has no name in its invariant
     for (i, d) in derivations.iter().enumerate() {
         targets[i] = d.to;
     }
@@ -30,7 +31,7 @@ pub fn cut(derivations: &[Derivation], models: u16, starts: &mut [u16])
     requires known { (k : ℕ) → k < length derivations.now → (at derivations.now k).from < models }
     ensures { (u : ℕ) → u ≤ models → Cut derivations.now u (slice_index starts.new u) }
 {
-    let mut next = 0;
+    let mut next = 0; // one walk for all models: a halving search for each takes four times as long
     for (i, d) in derivations.iter().enumerate() {
         let end = d.from as usize + 1;
         if next < end {

@@ -8,7 +8,7 @@ use history::answer::{Named, Outcome};
 use history::fault::ShopFault;
 use index::kind::Index;
 
-/// What an order comes to that is not refused.
+/// What an order comes to that is not refused. In an `Option`, None would have to mean carve.
 #[derive(Clone, Copy, Debug, PartialEq, Eq)]
 pub enum Verdict {
     Carve,

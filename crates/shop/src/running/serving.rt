@@ -1,5 +1,5 @@
 //! The call that takes any call.
-ghost use Rattle.std.specs.Prelude.{◌≡◌, ◌≤◌, length};
+ghost use Rattle.std.specs.Prelude.{◌≡◌, length};
 ghost use Rattle.shop.specs.Shops.{Keeps};
 ghost use Rattle.shop.specs.Runs.{asks_for, Serves};
 

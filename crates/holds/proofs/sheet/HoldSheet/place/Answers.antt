@@ -17,11 +17,11 @@ returns-then-is_full c =
     let free : held hs c.args.model ≡ false = sym (held_position c.args.model hs) ∙ ap (λ (o : Option ℕ). is_some o) (sym c.place_of.ensures) ∙ sym c.is_some.ensures ∙ c.if-is_some.false in
     (full_fault c.args.model hs free (eqb-true (length hs) 64 (sym c.is_full.ensures.value ∙ c.if-is_full.true)), refl)
 
-pub invariant_of-self : goal.invariant_of-self
-invariant_of-self c =
+pub invariant_of-self-clause-apart : goal.invariant_of-self-clause-apart
+invariant_of-self-clause-apart c =
     let hs = standing c.args.self.now in
     let free : held hs c.args.model ≡ false = sym (held_position c.args.model hs) ∙ ap (λ (o : Option ℕ). is_some o) (sym c.place_of.ensures) ∙ sym c.is_some.ensures ∙ c.if-is_some.false in
-    record { apart = ap apart c.push.ensures.items ∙ apart_placed hs (record { model = c.args.model; holder = c.args.holder }) free c.args.self.now.apart }
+    ap apart c.push.ensures.items ∙ apart_placed hs (record { model = c.args.model; holder = c.args.holder }) free c.args.self.now.apart
 
 pub returns : goal.returns
 returns c =

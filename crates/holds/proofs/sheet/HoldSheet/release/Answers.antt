@@ -16,11 +16,11 @@ returns-then-holds-at c =
     let d : Hold = record { model = 0; holder = 0 } in
     (others_fault c.args.model hs c.args.holder c.in-Some.at d (found c.args.model hs c.in-Some.at d c.in-Some.ensures) (rw c.holds.ensures at c.if-holds-at.true), refl)
 
-pub invariant_of-self : goal.invariant_of-self
-invariant_of-self c =
+pub invariant_of-self-clause-apart : goal.invariant_of-self-clause-apart
+invariant_of-self-clause-apart c =
     let hs = standing c.args.self.now in
     let d : Hold = record { model = 0; holder = 0 } in
-    record { apart = ap apart (c.remove.ensures.items ∙ sym (found c.args.model hs c.in-Some.at d c.in-Some.ensures).rest) ∙ apart_released hs c.args.model c.args.self.now.apart }
+    ap apart (c.remove.ensures.items ∙ sym (found c.args.model hs c.in-Some.at d c.in-Some.ensures).rest) ∙ apart_released hs c.args.model c.args.self.now.apart
 
 pub returns : goal.returns
 returns c =
