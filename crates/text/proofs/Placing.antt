@@ -1,34 +1,14 @@
 -- Texts placed into a buffer: one behind another, copied in, and what stands there after.
-use Rattle.std.proofs.Common.{◌≡◌, ℕ, ◌+◌, ◌-◌, ◌<◌, ◌≤◌, List, [], ◌∷◌, ◌++◌, length, take, drop, set, sym, refl, ap, ◌∙◌, append_assoc, add-one, arith}
-use Rattle.std.proofs.lemmas.List.{length-take-le, set-append_right, drop_more, length_push, take-append-drop, drop_at, set_split, length-append, length-drop, take_at, take_all, take_rest, drop_all, drop-drop, append-nil}
+use Rattle.std.proofs.Common.{◌≡◌, ℕ, ◌+◌, ◌-◌, ◌≤◌, List, [], ◌++◌, length, take, drop, sym, refl, ap, ◌∙◌, append_assoc, arith}
+use Rattle.std.proofs.lemmas.List.{length-take-le, take-append-drop, drop_at, length-append, length-drop, take_at, take_all, take_rest, drop_all, drop-drop, append-nil}
 use Rattle.std.proofs.lemmas.Slice.{put_mid-paste}
 use borrow.Rule.Slice.PartMut.{put_mid}
 use Rattle.text.specs.Placing.{placed}
-
--- one more byte behind a text that was placed
-pub placed_more : (d : List ℕ) (at : ℕ) (s : List ℕ) (c : ℕ) → at + length s < length d
-    → set (placed d at s) (at + length s) c ≡ placed d at (s ++ (c ∷ []))
-placed_more d at s c h =
-    let l : length (take at d) ≡ at = length-take-le at d (omega arith) in
-    let one = set-append_right (take at d) (s ++ drop (at + length s) d) at (at + length s) c l (omega arith) in
-    let z : at + length s - at ≡ length s = omega arith in
-    let two = set-append_right s (drop (at + length s) d) (length s) (length s) c refl (omega arith) in
-    let zz : length s - length s ≡ 0 = omega arith in
-    let three : set (drop (at + length s) d) 0 c ≡ c ∷ drop (at + length s + 1) d
-    = ap (λ xs. set xs 0 c) (drop_more d (at + length s) 0 h) in
-    let len : at + length (s ++ (c ∷ [])) ≡ at + length s + 1 = omega (arith, length_push s c) in
-    let four : s ++ (c ∷ drop (at + length s + 1) d) ≡ (s ++ (c ∷ [])) ++ drop (at + length (s ++ (c ∷ []))) d
-    = ap (λ n. s ++ (c ∷ drop n d)) (sym len) ∙ sym (append_assoc s (c ∷ []) (drop (at + length (s ++ (c ∷ []))) d)) in
-    one ∙ ap (λ n. take at d ++ set (s ++ drop (at + length s) d) n c) z
-    ∙ ap (λ xs. take at d ++ xs) (two ∙ ap (λ n. s ++ set (drop (at + length s) d) n c) zz ∙ ap (λ xs. s ++ xs) three ∙ four)
 
 pub placed_none : (d : List ℕ) (at : ℕ) → d ≡ placed d at []
 placed_none d at =
     let z : at ≡ at + 0 = omega arith in
     sym (take-append-drop at d) ∙ ap (λ k. take at d ++ drop k d) z
-
-pub placed_one : (d : List ℕ) (at c : ℕ) → at < length d → set d at c ≡ placed d at (c ∷ [])
-placed_one d at c h = rw add-one (set_split d at c h)
 
 -- what stands from the text on
 pub drop_placed : (d : List ℕ) (at : ℕ) (s : List ℕ) → at ≤ length d → drop at (placed d at s) ≡ s ++ drop (at + length s) d

@@ -2,7 +2,7 @@
 ghost use Rattle.std.specs.Prelude.{◌++◌, codes, decimal};
 ghost use Rattle.text.specs.Numerals.{Wrote};
 
-use crate::numeral::{width, write_number};
+use itoa::Buffer;
 
 /// Writes bytes from `at` on, and tells where they end. With too little room it writes nothing.
 pub fn write_bytes(out: &mut [u8], at: usize, bytes: &[u8]) -> Option<usize>
@@ -20,11 +20,13 @@ pub fn write_bytes(out: &mut [u8], at: usize, bytes: &[u8]) -> Option<usize>
 pub fn write_numbered(out: &mut [u8], word: &[u8], n: u16) -> Option<usize>
     ensures { Wrote out.old 0 (word.now ++ (decimal n ++ codes "\n")) result out.new }
 {
-    let len = word.len().checked_add(width(n) + 1)?;
+    let mut buffer = Buffer::new();
+    let numeral = buffer.format(n).as_bytes();
+    let len = word.len().checked_add(numeral.len() + 1)?;
     if len > out.len() {
         return None;
     }
     let at = write_bytes(out, 0, word)?;
-    let end = write_number(out, at, n)?;
+    let end = write_bytes(out, at, numeral)?;
     write_bytes(out, end, b"\n")
 }

@@ -1,7 +1,10 @@
-use Rattle.std.proofs.Common.{Some, arith}
+use Rattle.std.proofs.Common.{ℕ, List, decimal, ◌≡◌, subst, arith}
+use Rattle.text.specs.Numerals.{Wrote}
 use Rattle.text.proofs.Back.{reads_back}
 use Rattle.text.proofs.numeral.write_number.Goals as goal
 
 pub returns-clause-back : goal.returns-clause-back
 returns-clause-back c =
-    reads_back c.args.out.now c.args.at c.args.n (Some c.put.result) c.put.new.out (omega arith) (c.put.ensures.end, omega arith, c.put.ensures.bytes)
+    let e : c.as_bytes.result.now ≡ decimal c.args.n = cc in
+    let P : List ℕ → Type 0 = λ text. Wrote c.args.out.now c.args.at text c.write_bytes.result c.write_bytes.new.out in
+    reads_back c.args.out.now c.args.at c.args.n c.write_bytes.result c.write_bytes.new.out (omega arith) (subst P e c.write_bytes.ensures)
