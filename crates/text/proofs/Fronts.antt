@@ -13,9 +13,6 @@ use Rattle.text.specs.Numerals.{digit_first, Begins}
 pub own : IsNumeralModel (λ ds. all_ascii_digits ds ≡ true) (digits_value 10)
 own = numerals_by_value _ tells_all_ascii_digits
 
-pub digit_from_range : (c : ℕ) → 48 ≤ c → c ≤ 57 → is_ascii_digit c ≡ true
-digit_from_range c h k = grind (arith, rules)
-
 pub range_from_digit : (c : ℕ) → is_ascii_digit c ≡ true → (48 ≤ c) × (c ≤ 57)
 range_from_digit c h = search rules
 
