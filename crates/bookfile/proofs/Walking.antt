@@ -61,17 +61,6 @@ seconds_end xs ys h = ap (paired (numbers xs)) (numbers_short ys h) ∙ paired_n
 pub firsts_end : (xs ys : List ℕ) → length xs < 2 → derivations xs ys ≡ []
 firsts_end xs ys h = ap (λ us. paired us (numbers ys)) (numbers_short xs h)
 
-numbers_step : (u : ℕ) (xs more : List ℕ) → xs ≡ words (u ∷ []) ++ more → numbers xs ≡ u ∷ numbers more
-numbers_step u xs more e =
-    let n : u % 256 + 256 * (u / 256) ≡ u = omega arith in
-    ap numbers e ∙ ap (λ m. m ∷ numbers more) n
-
--- one place of the walk
-pub walk_step : (u v : ℕ) (xs ys us vs : List ℕ) → xs ≡ words (u ∷ []) ++ us → ys ≡ words (v ∷ []) ++ vs
-    → derivations xs ys ≡ record { from = u; to = v } ∷ derivations us vs
-walk_step u v xs ys us vs e f =
-    ap (λ zs. paired zs (numbers ys)) (numbers_step u xs us e) ∙ ap (paired (u ∷ numbers us)) (numbers_step v ys vs f)
-
 -- past the first places of both arrays
 pub walk_drop : (i : ℕ) (xs ys : List ℕ) → derivations (drop (i * 2) xs) (drop (i * 2) ys) ≡ drop i (derivations xs ys)
 walk_drop zero xs ys = refl
