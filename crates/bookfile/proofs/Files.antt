@@ -9,7 +9,6 @@ use Rattle.book.specs.declared.refusal.Refusal.TheVariants.{CountOutOfRange}
 use Rattle.book.specs.Counts.{count_refusal}
 use Rattle.book.specs.Refusals.{Answers}
 use Rattle.book.specs.Derivations.{Valid}
-use Rattle.book.proofs.Derivations.{some_none}
 use Rattle.bookfile.specs.declared.checked.BookFile.{BookFile}
 use Rattle.bookfile.specs.declared.refusal.FileRefusal.{FileRefusal}
 use Rattle.bookfile.specs.declared.refusal.FileRefusal.TheVariants.{Book, WrongLength, TooMany}
@@ -22,7 +21,7 @@ use Rattle.bookfile.proofs.Table.{first_none, mapped_none, places_valid, valid_p
 -- the checks of the sizes
 
 count_none : (b : Bool) → ◌≡◌ {A = Option Refusal} (cond b (Some CountOutOfRange) None) None → b ≡ false
-count_none true e = absurd (some_none CountOutOfRange e)
+count_none true e = cc
 count_none false e = refl
 
 -- a count that is not refused is from 1 to 1,024
@@ -35,9 +34,9 @@ pub within_count : (n : ℕ) → 1 ≤ n → n ≤ 1024 → count_refusal n ≡ 
 within_count n a b = rw (or_from (ltb n 1) (ltb 1024 n) (le-ltb n 1 a) (le-ltb 1024 n b)) refl
 
 sizes_none : (a b : Bool) (x : Option FileRefusal) → cond a (Some TooMany) (cond b x (Some WrongLength)) ≡ None → (a ≡ false) × (b ≡ true) × (x ≡ None)
-sizes_none true b x e = absurd (some_none TooMany e)
+sizes_none true b x e = cc
 sizes_none false true x e = (refl, refl, e)
-sizes_none false false x e = absurd (some_none WrongLength e)
+sizes_none false false x e = cc
 
 -- the sizes in front, read
 sized : (n d : ℕ) (rest : List ℕ) → file_refusal (words (n ∷ (d ∷ [])) ++ rest) ≡ sizes_refusal n d rest
@@ -109,10 +108,10 @@ sizes_hold n d rest h e =
 
 -- what an accepted file says is valid
 pub accepted_valid : (bytes : List ℕ) → file_refusal bytes ≡ None → Valid (count_in bytes) (derivations_in bytes)
-accepted_valid [] e = absurd (some_none WrongLength e)
-accepted_valid (a ∷ []) e = absurd (some_none WrongLength e)
-accepted_valid (a ∷ (b ∷ [])) e = absurd (some_none WrongLength e)
-accepted_valid (a ∷ (b ∷ (c ∷ []))) e = absurd (some_none WrongLength e)
+accepted_valid [] e = cc
+accepted_valid (a ∷ []) e = cc
+accepted_valid (a ∷ (b ∷ [])) e = cc
+accepted_valid (a ∷ (b ∷ (c ∷ []))) e = cc
 accepted_valid (a ∷ (b ∷ (c ∷ (d ∷ rest)))) e = (sizes_valid (a + 256 * b) (c + 256 * d) rest e).valid
 
 -- what the check behind the sizes answers, as an answer for the whole file
@@ -122,7 +121,7 @@ cut_answers bytes n d rest (Ok f) k j = ap file_refusal k ∙ sized n d rest ∙
 cut_answers bytes n d rest (Err e) k j = ap file_refusal k ∙ sized n d rest ∙ j
 
 pub refused_accepts : (bytes : List ℕ) (e : FileRefusal) → file_refusal bytes ≡ Some e → (n : ℕ) (ds : List Derivation) → Valid n ds → bytes ≡ file n ds → ⊥
-refused_accepts bytes e q n ds v w = some_none e (sym q ∙ ap file_refusal w ∙ file_accepted n ds v)
+refused_accepts bytes e q n ds v w = let accepted = file_accepted n ds v in cc
 
 pub cut_accepts : (bytes : List ℕ) (n d : ℕ) (rest : List ℕ) (r : Result BookFile FileRefusal) → Bytes bytes → bytes ≡ words (n ∷ (d ∷ [])) ++ rest → Splits n d rest r → Accepts bytes r
 cut_accepts bytes n d rest (Err e) h k j = refused_accepts bytes e (cut_answers bytes n d rest (Err e) k j)

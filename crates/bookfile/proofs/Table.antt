@@ -9,7 +9,7 @@ use Rattle.book.specs.declared.refusal.Refusal.{Refusal}
 use Rattle.book.specs.Order.{by_models}
 use Rattle.book.specs.Refusals.{first}
 use Rattle.book.specs.Derivations.{proper, all_proper, improper}
-use Rattle.book.proofs.Derivations.{some_none, proper_from, proper_to}
+use Rattle.book.proofs.Derivations.{proper_from, proper_to}
 use Rattle.bookfile.specs.declared.refusal.FileRefusal.{FileRefusal}
 use Rattle.bookfile.specs.declared.refusal.FileRefusal.TheVariants.{Book, NotRising}
 use Rattle.bookfile.specs.Table.{follows, place_refusal, places_refusal}
@@ -17,15 +17,15 @@ use Rattle.bookfile.specs.Table.{follows, place_refusal, places_refusal}
 -- of two refusals neither is owed
 pub first_none : {E : Type 0} (a b : Option E) → first a b ≡ None → (a ≡ None) × (b ≡ None)
 first_none None b e = (refl, e)
-first_none (Some f) b e = absurd (some_none f e)
+first_none (Some f) b e = cc
 
 pub mapped_none : (o : Option Refusal) → option_map Book o ≡ None → o ≡ None
 mapped_none None e = refl
-mapped_none (Some r) e = absurd (some_none (Book r) e)
+mapped_none (Some r) e = cc
 
 rising_none : (b : Bool) → ◌≡◌ {A = Option FileRefusal} (cond b None (Some NotRising)) None → b ≡ true
 rising_none true e = refl
-rising_none false e = absurd (some_none NotRising e)
+rising_none false e = cc
 
 -- a list rises, behind what was before it
 abbrev pub rising_behind : Option Derivation → List Derivation → Bool
