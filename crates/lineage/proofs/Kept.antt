@@ -64,7 +64,8 @@ kept_map t f p (x ∷ xs) = go (p x) (kept_map t f p xs)
     go true e = kept_more t (f x) (map f (filter p xs)) ∙ (ap (λ k. bit (t (f x)) + k) e ∙ sym (cond_length (t (f x)) x (filter (λ x. p x && t (f x)) xs)))
     go false e = e
 
-kept_counting : (p : ℕ → Bool) (m a : ℕ) → length (filter p (range_with_len a m)) ≡ count m (λ k. p (a + k))
+-- how many numbers of a range pass a test
+pub kept_counting : (p : ℕ → Bool) (m a : ℕ) → length (filter p (range_with_len a m)) ≡ count m (λ k. p (a + k))
 kept_counting p zero a = refl
 kept_counting p (suc m) a = omega (
   arith,

@@ -1,30 +1,19 @@
 -- A count over a range; and a model stands in a circle exactly if another one, taken from it, leads back.
-use Rattle.std.proofs.Common.{◌≡◌, ℕ, zero, suc, ◌+◌, Bool, true, not, ◌&&◌, eqb, List, [], ◌∷◌, length, filter, sym, refl, ap, ◌∙◌, inl, inr, add-zero, zero-add, arith}
+use Rattle.std.proofs.Common.{◌≡◌, ℕ, ◌+◌, Bool, true, not, ◌&&◌, eqb, List, [], ◌∷◌, sym, refl, ap, ◌∙◌, inl, inr, zero-add}
 use Rattle.std.specs.List.{count_by, list_any, range_with_len}
 use Rattle.std.proofs.lemmas.List.Sums.{length-filter}
 use Rattle.std.proofs.lemmas.Bool.{and_parts, and_from, not-true, not_from_false, cases_eq, eqb-false, ne_eqb, or_cases, or_left, or_right, eqb-true, eq-eqb, false≢true}
 use Rattle.lineage.specs.Finite.{count, Chain, none, step}
-use Rattle.lineage.proofs.Kept.{kept_more}
-use Rattle.lineage.proofs.Numbers.{bit, total_front, total_same, any_hit, any_some, same_tests}
+use Rattle.lineage.proofs.Kept.{kept_counting}
+use Rattle.lineage.proofs.Numbers.{bit, total_same, any_hit, any_some, same_tests}
 use Rattle.lineage.proofs.Reach.{chain_trans}
 use Rattle.search.specs.declared.successors.Successors.{Successors}
 use Rattle.search.specs.Following.{taken, lists, follows, reaches, returned}
 use Rattle.search.proofs.Taken.{follows_within, follows_lists}
 use Rattle.search.proofs.Reached.{reaches_chain}
 
-counting : (p : ℕ → Bool) (m a : ℕ) → length (filter p (range_with_len a m)) ≡ count m (λ k. p (a + k))
-counting p zero a = refl
-counting p (suc m) a = omega (
-  arith,
-  kept_more p a (range_with_len (a + 1) m),
-  counting p m (a + 1),
-  total_front m (λ k. bit (p (a + k))),
-  ap (λ k. bit (p k)) (add-zero a),
-  total_same m (λ k. bit (p (a + 1 + k))) (λ k. bit (p (a + suc k))) (λ k l. let e : a + 1 + k ≡ a + suc k = omega arith in ap (λ k. bit (p k)) e),
-)
-
 pub counted : (n : ℕ) (p : ℕ → Bool) → count_by p (range_with_len 0 n) ≡ count n p
-counted n p = sym (length-filter p (range_with_len 0 n)) ∙ counting p n 0 ∙ total_same n (λ k. bit (p (0 + k))) (λ k. bit (p k)) (λ k l. ap (λ k. bit (p k)) (zero-add k))
+counted n p = sym (length-filter p (range_with_len 0 n)) ∙ kept_counting p n 0 ∙ total_same n (λ k. bit (p (0 + k))) (λ k. bit (p k)) (λ k l. ap (λ k. bit (p k)) (zero-add k))
 
 -- a chain from u to another model has a step from u to another model
 first_other : (R : ℕ → ℕ → Bool) {u v : ℕ} → (u ≡ v → ⊥) → Chain R u v → (w : ℕ) × (R u w ≡ true) × (u ≡ w → ⊥) × Chain R w v
