@@ -1,15 +1,16 @@
--- Proper derivations: what the test says, and that a list of them keeps being one when a derivation is inserted or deleted.
-use Rattle.std.proofs.Common.{◌≡◌, ℕ, true, List, [], ◌∷◌, Some, None, Option, sym, refl, arith}
+-- Derivations: that they have a total order, what the test of a proper one says, and that a list of proper ones keeps being one when a derivation is inserted or deleted.
+use Rattle.std.proofs.Common.{◌≡◌, ℕ, true, List, [], ◌∷◌, None, refl, arith, rules}
 use Rattle.std.proofs.lemmas.Grind.{common_steps}
-use Rattle.std.proofs.lemmas.Option.{none-some}
 use Rattle.std.proofs.lemmas.Bool.{and_from}
+use Rattle.rising.specs.Order.{Order}
 use Rattle.rising.specs.Lists.{insert, delete}
 use Rattle.book.specs.declared.derivation.Derivation.{Derivation}
 use Rattle.book.specs.Order.{by_models}
 use Rattle.book.specs.Derivations.{proper, all_proper, improper}
 
-pub some_none : {E : Type 0} (e : E) → ◌≡◌ {A = Option E} (Some e) None → ⊥
-some_none e p = none-some e (sym p)
+-- derivations have a total order
+pub models_order : Order by_models
+models_order = search rules
 
 -- a derivation is proper exactly if no refusal is owed for it
 pub proper_from : (n : ℕ) (d : Derivation) → improper n d ≡ None → proper n d ≡ true

@@ -1,25 +1,21 @@
 -- The book that the events make: it rises, and has exactly what stands.
-use Rattle.std.proofs.Common.{◌≡◌, ℕ, true, false, not, ◌&&◌, ◌||◌, List, [], ◌∷◌, sym, refl, ap, ◌∙◌, subst, inl, inr, rules}
+use Rattle.std.proofs.Common.{◌≡◌, ℕ, true, false, not, ◌&&◌, ◌||◌, List, [], ◌∷◌, sym, refl, ap, ◌∙◌, subst, inl, inr}
 use Rattle.std.specs.List.{Contains}
 use Rattle.std.proofs.lemmas.Bool.{cases_Bool, true≢false, or_cases, or_left, or_right, and_parts, and_from, not-true, not_from_false}
 use Rattle.lineage.proofs.Numbers.{same_tests}
-use Rattle.rising.specs.Order.{Order}
 use Rattle.rising.specs.Laws.{Laws}
 use Rattle.rising.specs.Lists.{rising, insert, delete}
 use Rattle.rising.proofs.Keys.{laws}
 use Rattle.book.specs.declared.derivation.Derivation.{Derivation}
 use Rattle.book.specs.Order.{by_models}
 use Rattle.book.specs.Derivations.{taken_from}
+use Rattle.book.proofs.Derivations.{models_order}
 use Rattle.book.proofs.Taken.{has_taken, taken_has}
 use Rattle.history.specs.Events.{Event, entered, struck, indexed, placed, released}
 use Rattle.history.specs.Standing.{is, stands}
 use Rattle.history.specs.Lists.{book_of}
 use Rattle.history.proofs.Last.{same_derivation, itself}
 use Rattle.history.proofs.Steps.{stands_entered, stands_struck}
-
--- derivations have a total order
-pub models_order : Order by_models
-models_order = search rules
 
 law : Laws by_models
 law = laws by_models models_order

@@ -13,7 +13,7 @@ use Rattle.book.proofs.Taken.{taken_has}
 use Rattle.holds.specs.declared.sheet.Hold.{Hold}
 use Rattle.holds.specs.Holds.{held, apart}
 use Rattle.history.specs.Standing.{is}
-use Rattle.history.proofs.Books.{models_order}
+use Rattle.book.proofs.Derivations.{models_order}
 
 -- one more, or not
 abbrev bit : Bool → ℕ

@@ -26,7 +26,8 @@ use Rattle.history.specs.Table.{Refuses, check, refusal, anothers, how_many_stan
 use Rattle.history.specs.Laws.{Bars}
 use Rattle.history.specs.Lists.{book_of, sheet_of}
 use Rattle.history.proofs.Last.{held_holder}
-use Rattle.history.proofs.Books.{models_order, book_rises, book_stands}
+use Rattle.book.proofs.Derivations.{models_order}
+use Rattle.history.proofs.Books.{book_rises, book_stands}
 use Rattle.history.proofs.Kept.{Kept, book_test, book_length, sheet_held, sheet_length}
 
 -- enough, or room for more
