@@ -1,9 +1,8 @@
 -- The replies to a line: their texts, what they stand for, and what writing one comes to.
-use Rattle.std.specs.Prelude.{◌≡◌, ℕ, ◌<◌, ◌≤◌, Bool, true, false, List, ◌++◌, length, Some, None, Ok, Err, codes, decimal, Option, Result}
+use Rattle.std.specs.Prelude.{◌≡◌, ℕ, ◌<◌, ◌≤◌, List, ◌++◌, length, Some, None, Ok, Err, codes, decimal, Option, Result}
 use Rattle.std.specs.Option.{option_map, option_and_then}
-use Rattle.std.specs.Result.{result_err}
 use Rattle.text.specs.Placing.{placed}
-use Rattle.history.specs.Answers.{Answer, Told}
+use Rattle.history.specs.Answers.{Answer, Told, carved, named, refused}
 use Rattle.history.specs.declared.answer.Outcome.{Outcome}
 use Rattle.history.specs.declared.answer.Outcome.TheVariants.{Done, Carve, Stop}
 use Rattle.lines.specs.declared.fault.LineFault.{LineFault}
@@ -30,24 +29,6 @@ reply_text r = ended (reply_line r)
 abbrev pub reply_of : Answer → Reply
 reply_of (Ok o) = Ok o
 reply_of (Err f) = Err (Shop f)
-
--- the fault of a refused line
-abbrev pub refused : Reply → Option LineFault
-refused r = result_err r
-
--- whether the reply is carve
-abbrev pub carved : Reply → Bool
-carved (Ok Done) = false
-carved (Ok Carve) = true
-carved (Ok (Stop s)) = false
-carved (Err f) = false
-
--- the model that a stop names
-abbrev pub named : Reply → Option ℕ
-named (Ok Done) = None
-named (Ok Carve) = None
-named (Ok (Stop s)) = Some s.model
-named (Err f) = None
 
 -- a stop names a number of 16 bits
 abbrev pub Nameable : Reply → Type 0

@@ -3,7 +3,7 @@ use Rattle.std.specs.Prelude.{◌≡◌, ℕ, ◌<◌, ◌≤◌, List, length, 
 use Rattle.std.specs.Option.{option_map}
 use Rattle.text.specs.Placing.{placed}
 use Rattle.index.specs.Meanings.{Meaning}
-use Rattle.history.specs.Answers.{Answer}
+use Rattle.history.specs.Answers.{Answer, refused}
 use Rattle.history.specs.Table.{Refuses}
 use Rattle.lines.specs.declared.fault.LineFault.TheVariants.{OutputTooShort, NoForm}
 use Rattle.lines.specs.declared.form.Form.{Form}
@@ -11,7 +11,7 @@ use Rattle.lines.specs.declared.reading.Line.{Line}
 use Rattle.lines.specs.Computed.{form_of}
 use Rattle.lines.specs.Forms.{call_of}
 use Rattle.lines.specs.Reading.{line_bytes, line_place}
-use Rattle.lines.specs.Replies.{Reply, reply_text, reply_of, refused}
+use Rattle.lines.specs.Replies.{Reply, reply_text, reply_of}
 use Rattle.shop.specs.declared.running.Shop.{Shop}
 use Rattle.shop.specs.Shops.{Keeps}
 use Rattle.orderfile.specs.declared.answering.RefusedLine.{RefusedLine}
