@@ -12,7 +12,9 @@ use std::alloc::{AllocError, Global};
 pub fn answers<I: Index + Drop>(heap: Global, index: I, day: Day<'_>) -> Result<Vec<u8>, AllocError>
     ensures { IfOk result (λ v. v.items ≡ printed I.Index.CAPACITY 32768 day.entry.book.now day.entry.orders.now) }
 {
-    let room = count_lines(day.orders).saturating_mul(REPLY_ROOM).max(REPLY_ROOM);
+    let room = count_lines(day.orders)
+        .saturating_mul(REPLY_ROOM)
+        .max(REPLY_ROOM);
     let mut work = vec![in heap; 0u16; WORK]?;
     let mut out = vec![in heap; 0u8; room]?;
     let Ok(len) = answer_day(index, day, work.as_mut_slice(), out.as_mut_slice()) else {

@@ -8,16 +8,16 @@ use Rattle.shop.specs.Loads.{entries}
 use Rattle.orderfile.proofs.Lawful.{lawfully}
 use Rattle.orderfile.proofs.Printing.{printed_fault, printed_replies}
 use Rattle.orderfile.proofs.day.answer_day.Goals as goal
-use Rattle.orderfile.proofs.day.answer_day.Goals.{then-out-lt16-via-then-out-lt16, then-out-lt16-via-else-out-lt16+then-out-lines}
+use Rattle.orderfile.proofs.day.answer_day.Goals.{then-out-lt-REPLY_ROOM-via-then-out-lt-REPLY_ROOM, then-out-lt-REPLY_ROOM-via-else-out-lt-REPLY_ROOM+then-out-lines}
 
-pub returns-then-out-lt16 : goal.returns-then-out-lt16
-returns-then-out-lt16 g c =
+pub returns-then-out-lt-REPLY_ROOM : goal.returns-then-out-lt-REPLY_ROOM
+returns-then-out-lt-REPLY_ROOM g c =
     let lines = length (lines_of c.args.day.orders.now) in
     let low = le-max_left 16 (16 * lines) in
     let high = le-max_right 16 (16 * lines) in
     let many = c.count_lines-lines.ensures in
     record {
-      prints = (elim c.then-out-lt16.branch [ then-out-lt16-via-then-out-lt16 w ↦ omega arith | then-out-lt16-via-else-out-lt16+then-out-lines w ↦ omega arith ], refl);
+      prints = (elim c.then-out-lt-REPLY_ROOM.branch [ then-out-lt-REPLY_ROOM-via-then-out-lt-REPLY_ROOM w ↦ omega arith | then-out-lt-REPLY_ROOM-via-else-out-lt-REPLY_ROOM+then-out-lines w ↦ omega arith ], refl);
       law = lawfully _ _ _ _;
     }
 
