@@ -1,5 +1,5 @@
 //! A whole day: from the bytes of a book file and of an order file to the bytes of the answers.
-ghost use Rattle.std.specs.Prelude.{◌≡◌, ℕ, ◌*◌, ◌≤◌, length};
+ghost use Rattle.std.specs.Prelude.{◌≡◌, ◌*◌, ◌≤◌, length};
 ghost use Rattle.text.specs.Placing.{placed};
 ghost use Rattle.lines.specs.Lines.{lines_of};
 ghost use Rattle.orderfile.specs.declared.day.DayFault.TheVariants.{Book as OfBook};

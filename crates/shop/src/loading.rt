@@ -1,5 +1,4 @@
 //! A shop opened from a book file.
-ghost use Rattle.bookfile.specs.Checked.{count_shown, shown};
 ghost use Rattle.shop.specs.Loads.{Loads, Unbuilt, Reloads};
 
 use crate::running::Shop;
