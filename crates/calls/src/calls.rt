@@ -1,11 +1,11 @@
 //! Runs calls on a shop: the lengths of a work space, two kinds side by side, and the room that a day asks for.
-use anyhow::bail;
+use anyhow::{Context, bail};
 use book::count::Count;
 use book::derivation::Derivation;
 use history::answer::{Answer, Outcome};
 use history::call::Call;
 use index::kind::WORK;
-use lines::reply::{reply_of, write_reply};
+use lines::reply::{REPLY_ROOM, reply_of, write_reply};
 use orderfile::day::{Day, answer_day};
 use search::plain::PlainSearch;
 use shop::runs::compare;
@@ -28,11 +28,9 @@ const CALLS: [Call; 8] = [
 // Prints the answers, each with the line that it is written as.
 fn show(rt: &HostRuntime, answers: &[Answer]) -> anyhow::Result<()> {
     for answer in answers {
-        let mut line = [0u8; 16];
-        let len = write_reply(&mut line, reply_of(*answer)).unwrap_or(0);
-        if let Some(text) = line.get(..len) {
-            print!(rt; "{}", std::str::from_utf8(text)?)?;
-        }
+        let mut line = [0u8; REPLY_ROOM];
+        let len = write_reply(&mut line, reply_of(*answer)).context("no room for a reply")?;
+        print!(rt; "{}", std::str::from_utf8(&line[..len])?)?;
     }
     Ok(())
 }
