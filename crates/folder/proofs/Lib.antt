@@ -1,2 +1,1 @@
-mod Buffers
 mod Fronts

@@ -1,4 +1,3 @@
-pub mod Lines
 pub mod Taken
 pub mod Filled
 pub mod Marks

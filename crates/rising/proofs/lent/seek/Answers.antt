@@ -1,10 +1,7 @@
-use Rattle.std.proofs.Common.{ℕ, length, Less, Equal, Greater, refl, arith}
+use Rattle.std.proofs.Common.{ℕ, Less, Equal, Greater, arith}
 use Rattle.rising.specs.Halving.{middle, halving}
 use Rattle.rising.proofs.Search.{read_cmp, on_less, on_greater, on_equal, at_end}
 use Rattle.rising.proofs.lent.seek.Goals as goal
-
-pub loop-low-init : goal.loop-low-init
-loop-low-init g c = (omega arith, omega arith, (length c.args.keys.now, omega arith, refl))
 
 pub loop-low-preserved : goal.loop-low-preserved
 loop-low-preserved g c =

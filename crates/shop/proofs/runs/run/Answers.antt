@@ -3,15 +3,12 @@ use Rattle.std.proofs.lemmas.List.{length-take, get_or-take}
 use Rattle.history.specs.declared.call.Call.{Call}
 use Rattle.history.specs.declared.call.Call.TheVariants.{Enter}
 use Rattle.history.proofs.LastCall.{by_the_last_call}
-use Rattle.shop.proofs.Making.{running_none, running_more, ran_short, ran_all, ruled_by}
+use Rattle.shop.proofs.Making.{running_more, ran_short, ran_all, ruled_by}
 use Rattle.shop.proofs.runs.run.Goals as goal
 
 -- what the checker reads where there is no call
 abbrev none : Call
 none = Enter (record { from = 0; to = 0 })
-
-pub loop-made-init : goal.loop-made-init
-loop-made-init g c = running_none c.open-shop.ensures.follows
 
 pub returns-in-None : goal.returns-in-None
 returns-in-None g c =

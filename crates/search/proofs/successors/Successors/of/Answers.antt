@@ -5,11 +5,6 @@ use Rattle.book.specs.Derivations.{taken_from}
 use Rattle.search.proofs.Filled.{valid_as, firsts_rise, known, starts_rise, starts_fit, targets_known, follows_book}
 use Rattle.search.proofs.successors.Successors.of.Goals as goal
 
-pub copy_targets-requires : goal.copy_targets-requires
-copy_targets-requires c =
-    let valid = valid_as c.args.book.now c.count.result _ _ c.count.ensures c.models-models.ensures c.derivations-derivations.ensures in
-    omega (arith, valid.few)
-
 pub cut-requires : goal.cut-requires
 cut-requires c =
     let n = c.models-models.result in

@@ -1,4 +1,4 @@
-use Rattle.std.proofs.Common.{◌+◌, ◌<◌, length, Some, None, refl, arith}
+use Rattle.std.proofs.Common.{◌+◌, ◌<◌, length, Some, None, refl}
 use Rattle.lines.specs.declared.reading.Line.{Line}
 use Rattle.lines.proofs.Lines.{some_bytes, no_lines}
 use Rattle.lines.proofs.Steps.{gives}
@@ -8,13 +8,6 @@ pub returns-then-is_empty-clause-steps : goal.returns-then-is_empty-clause-steps
 returns-then-is_empty-clause-steps c =
     let s = c.args.self.now in
     gives s None s (no_lines s.rest.now c.if-is_empty.ensures, refl)
-
-pub invariant_of-self : goal.invariant_of-self
-invariant_of-self c =
-    let s = c.args.self.now in
-    let r = s.room in
-    let h : 0 < length s.rest.now = some_bytes s.rest.now c.if-is_empty.ensures in
-    record { room = omega (arith, c.first_line.ensures.shorter h) }
 
 pub returns-clause-steps : goal.returns-clause-steps
 returns-clause-steps c =
