@@ -136,6 +136,8 @@ fn main(rt: HostRuntime) -> anyhow::Result<()> {
         answer(&rt, case)?;
     }
     answer_files(&rt, "files of the folder", "book.bin", "orders.txt")?;
+    // longer than a book file is read
+    answer_files(&rt, "long order file", "book.bin", "long.txt")?;
     answer_files(&rt, "order file is missing", "book.bin", "missing.txt")?;
     answer_files(&rt, "book file is missing", "missing.bin", "orders.txt")?;
     answer_files(&rt, "both files are missing", "missing.bin", "missing.txt")
