@@ -166,8 +166,11 @@ def write():
     book, orders = bytes.fromhex("030002000000010001000200"), b"I\nC 2\nH 0 7\nC 2"
     (trials / "data" / "book.bin").write_bytes(book)
     (trials / "data" / "orders.txt").write_bytes(orders)
+    long = b"C 0\n" * 2100  # longer than a book file is read
+    (trials / "data" / "long.txt").write_bytes(long)
     folders = [
         ("files of the folder", book, orders),
+        ("long order file", book, long),
         ("order file is missing", book, b""),
         ("book file is missing", b"", orders),
         ("both files are missing", b"", b""),
