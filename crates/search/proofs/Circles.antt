@@ -1,19 +1,22 @@
 -- A count over a range; and a model stands in a circle exactly if another one, taken from it, leads back.
-use Rattle.std.proofs.Common.{◌≡◌, ℕ, ◌+◌, Bool, true, not, ◌&&◌, eqb, List, [], ◌∷◌, sym, refl, ap, ◌∙◌, inl, inr, zero-add}
+use Rattle.std.proofs.Common.{◌≡◌, ℕ, ◌+◌, ◌<◌, Bool, true, false, not, ◌&&◌, eqb, List, [], ◌∷◌, length, get_or, sym, refl, ap, ◌∙◌, inl, inr, zero-add}
 use Rattle.std.specs.List.{count_by, list_any, range_with_len}
 use Rattle.std.proofs.lemmas.List.Sums.{length-filter}
-use Rattle.std.proofs.lemmas.Bool.{and_parts, and_from, not-true, not_from_false, cases_eq, eqb-false, ne_eqb, or_cases, or_left, or_right, eqb-true, eq-eqb, false≢true}
+use Rattle.std.proofs.lemmas.Bool.{and_parts, and_from, not-true, not_from_false, cases_eq, eqb-false, ne_eqb, or_cases, or_left, or_right, eqb-true, eq-eqb, false≢true, both_ways}
 use Rattle.lineage.specs.Finite.{count, Chain, none, step}
 use Rattle.lineage.proofs.Kept.{kept_counting}
-use Rattle.lineage.proofs.Numbers.{bit, total_same, any_hit, any_some, same_tests}
+use Rattle.lineage.proofs.Numbers.{bit, total_same, count_more, any_hit, any_some, same_tests, refuted}
 use Rattle.lineage.proofs.Reach.{chain_trans}
 use Rattle.search.specs.declared.successors.Successors.{Successors}
 use Rattle.search.specs.Following.{taken, lists, follows, reaches, returned}
-use Rattle.search.proofs.Taken.{follows_within, follows_lists}
+use Rattle.search.proofs.Taken.{follows_within, follows_lists, follows_taken}
 use Rattle.search.proofs.Reached.{reaches_chain}
 
 pub counted : (n : ℕ) (p : ℕ → Bool) → count_by p (range_with_len 0 n) ≡ count n p
 counted n p = sym (length-filter p (range_with_len 0 n)) ∙ kept_counting p n 0 ∙ total_same n (λ k. bit (p (0 + k))) (λ k. bit (p k)) (λ k l. ap (λ k. bit (p k)) (zero-add k))
+
+pub count_step : (i many more : ℕ) (p : ℕ → Bool) (b : Bool) → many ≡ count i p → p i ≡ b → more ≡ many + bit b → more ≡ count (i + 1) p
+count_step i many more p b e f g = g ∙ ap (λ (k : ℕ). k + bit b) e ∙ ap (λ (t : Bool). count i p + bit t) (sym f) ∙ sym (count_more i p)
 
 -- a chain from u to another model has a step from u to another model
 first_other : (R : ℕ → ℕ → Bool) {u v : ℕ} → (u ≡ v → ⊥) → Chain R u v → (w : ℕ) × (R u w ≡ true) × (u ≡ w → ⊥) × Chain R w v
@@ -44,7 +47,7 @@ module _ (s : Successors) (u : ℕ) where
   abbrev pub back : ℕ → Bool
   back v = not (eqb u v) && reaches s v u
 
-  circle_from : (v : ℕ) → follows s u v ≡ true → back v ≡ true → returned s.models (reaches s) u ≡ true
+  pub circle_from : (v : ℕ) → follows s u v ≡ true → back v ≡ true → returned s.models (reaches s) u ≡ true
   circle_from v e b =
       let w = follows_within s u v e in
       let p = and_parts (not (eqb u v)) (reaches s v u) b in
@@ -67,3 +70,9 @@ module _ (s : Successors) (u : ℕ) where
   circle_any = same_tests (list_any back (taken s u)) (returned s.models (reaches s) u)
       (λ e. let r = any_listed back (taken s u) e in circle_from r.0 (follows_lists s u r.0 ∙ r.1) r.2)
       (λ c. let r = circle_target c in listed_any back (taken s u) r.0 (sym (follows_lists s u r.0) ∙ r.1) r.2)
+
+  pub no_circle : ((k : ℕ) → k < length (taken s u) → back (get_or (taken s u) k 0) ≡ false) → returned s.models (reaches s) u ≡ false
+  no_circle h = refuted (returned s.models (reaches s) u) (λ c.
+      let t = circle_target c in
+      let f = follows_taken s u t.0 t.1 in
+      both_ways (back (get_or (taken s u) f.0 0)) (h f.0 f.1) (ap back f.2 ∙ t.2))

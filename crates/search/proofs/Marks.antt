@@ -1,6 +1,6 @@
 -- How a search marks what it finds and lets it wait, and that a search that is done has found what a chain leads to.
-use Rattle.std.proofs.Common.{◌≡◌, ℕ, zero, suc, ◌+◌, ◌<◌, Bool, true, false, eqb, ◌⊎◌, List, [], ◌∷◌, ◌++◌, length, get_or, set, replicate, sym, refl, ap, ◌∙◌, subst, inl, inr, arith, length-set, length-append}
-use Rattle.std.proofs.lemmas.List.{get_or-set_same}
+use Rattle.std.proofs.Common.{◌≡◌, ℕ, zero, suc, ◌+◌, ◌<◌, ◌≤◌, Bool, true, false, eqb, ◌⊎◌, List, [], ◌∷◌, ◌++◌, length, get_or, set, take, drop, replicate, sym, refl, ap, ◌∙◌, subst, inl, inr, arith, length-set, length-append}
+use Rattle.std.proofs.lemmas.List.{get_or-set_same, drop-append-le, length-take-le, take_more_set}
 use Rattle.std.proofs.lemmas.Bool.{true≢false, false≢true, or_cases, or_left, or_right, eqb-true, eq-eqb}
 use Rattle.lineage.specs.Finite.{Chain, none, step}
 use Rattle.lineage.proofs.Reach.{chain_trans}
@@ -43,7 +43,7 @@ marked_before (x ∷ m) (suc v) (suc w) p = elim (marked_before m v w p) [ inl q
 itself : (x : ℕ) → lists (x ∷ []) x ≡ true
 itself x = or_left (eqb x x) false (eq-eqb x x refl)
 
-only : (x v : ℕ) → lists (x ∷ []) v ≡ true → x ≡ v
+pub only : (x v : ℕ) → lists (x ∷ []) v ≡ true → x ≡ v
 only x v e = elim (or_cases (eqb x v) false e) [ inl h ↦ eqb-true x v h | inr h ↦ absurd (false≢true h) ]
 
 lists_before : (q : List ℕ) (x v : ℕ) → lists q v ≡ true → lists (q ++ x ∷ []) v ≡ true
@@ -64,6 +64,21 @@ lists_behind (y ∷ q) x v e = elim (or_cases (eqb y v) (lists (q ++ x ∷ []) v
   | inr h ↦ elim (lists_behind q x v h) [ inl g ↦ inl (or_right (eqb y v) (lists q v) g) | inr g ↦ inr g ]
 ]
 
+-- no model is found, or one that has a mark
+pub finds_none : (m : List Bool) (q : List ℕ) → Finds [] m q m q
+finds_none m q = record { size = refl; room = refl; marks = λ v p. p; waits = λ v p. p; all = λ v e. absurd (false≢true e); anew = λ v p. inl p; queued = λ v p. inl p }
+
+pub finds_old : (x : ℕ) (m : List Bool) (q : List ℕ) → Marked m x → Finds (x ∷ []) m q m q
+finds_old x m q k = record {
+  size = refl;
+  room = refl;
+  marks = λ v p. p;
+  waits = λ v p. p;
+  all = λ v e. subst (Marked m) (only x v e) k;
+  anew = λ v p. inl p;
+  queued = λ v p. inl p;
+}
+
 -- a model that has no mark is found
 pub finds_new : (x : ℕ) (m : List Bool) (q : List ℕ) → x < length m → get_or m x false ≡ false → Finds (x ∷ []) m q (set m x true) (q ++ x ∷ [])
 finds_new x m q l e = record {
@@ -78,6 +93,10 @@ finds_new x m q l e = record {
   ];
   queued = λ v p. elim (lists_behind q x v p) [ inl h ↦ inl h | inr f ↦ inr (subst (λ (y : ℕ). lists (x ∷ []) y ≡ true) f (itself x)) ];
 }
+
+-- a row of models with one more in its place, from h on
+pub row_more : (row : List ℕ) (h end x : ℕ) → h ≤ end → end < length row → drop h (take (end + 1) (set row end x)) ≡ drop h (take end row) ++ x ∷ []
+row_more row h end x a l = ap (drop h) (take_more_set row end x l) ∙ drop-append-le h (take end row) (x ∷ []) (omega (arith, length-take-le end row (omega arith)))
 
 -- and one more model than ts
 pub finds_more : (ts : List ℕ) (x : ℕ) (m n o : List Bool) (q r s : List ℕ) → Finds ts m q n r → Finds (x ∷ []) n r o s → Finds (ts ++ x ∷ []) m q o s

@@ -1,5 +1,6 @@
 -- Reaching is having a chain of derivations, and marks that a search leaves are those of what is reached.
-use Rattle.std.proofs.Common.{◌≡◌, ℕ, ◌<◌, ◌≤◌, Bool, true, false, ◌&&◌, ltb, ◌↔◌, List, get_or, sym, ap, ◌∙◌}
+use Rattle.std.proofs.Common.{◌≡◌, ℕ, ◌<◌, ◌≤◌, Bool, true, false, ◌&&◌, ltb, ◌↔◌, List, get_or, sym, ap, ◌∙◌, subst}
+use mathlib.Core.Path.{fun_ext}
 use Rattle.std.proofs.lemmas.Bool.{and_parts, and_from, and_left, and_right, ltb-true, lt-ltb, le-ltb}
 use Rattle.lineage.specs.Finite.{Chain, none, step, Within}
 use Rattle.lineage.specs.Book.{leads}
@@ -44,3 +45,7 @@ module _ (s : Successors) where
   -- an answer that says what is reached, by chains
   pub answer_chain : (b : Bool) (u v : ℕ) → b ≡ reaches s u v → (b ≡ true) ↔ ((u < s.models) × Chain (follows s) u v)
   answer_chain b u v e = ((λ p. (reaches_chain u v).0 (sym e ∙ p)), (λ c. e ∙ (reaches_chain u v).1 c))
+
+-- what is said of successors, by their count and test, holds of the book of n models and the test R that they keep
+pub of_book : (P : ℕ → (ℕ → ℕ → Bool) → Type 0) (s : Successors) (n : ℕ) (R : ℕ → ℕ → Bool) → s.models ≡ n → ((u v : ℕ) → follows s u v ≡ R u v) → P s.models (follows s) → P n R
+of_book P s n R e h p = subst (λ (m : ℕ). P m R) e (subst (P s.models) (fun_ext (λ u. fun_ext (h u))) p)

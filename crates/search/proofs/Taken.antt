@@ -63,3 +63,11 @@ module _ (s : Successors) where
   pub follows_lists : (u v : ℕ) → follows s u v ≡ lists (taken s u) v
   unfolding follows
   follows_lists u v = refl
+
+  pub taken_follows : (u k : ℕ) → k < length (taken s u) → follows s u (get_or (taken s u) k 0) ≡ true
+  unfolding follows
+  taken_follows u k l = lists_at (taken s u) k (get_or (taken s u) k 0) l refl
+
+  pub follows_taken : (u v : ℕ) → follows s u v ≡ true → (k : ℕ) × (k < length (taken s u)) × (get_or (taken s u) k 0 ≡ v)
+  unfolding follows
+  follows_taken u v e = at_lists (taken s u) v e

@@ -2,7 +2,7 @@
 ghost use Rattle.std.specs.Prelude.{ℕ, ◌+◌, ◌<◌, ◌≤◌, slice_index};
 
 pub mod descending;
-pub mod making;
+pub mod filling;
 pub mod reaching;
 pub mod reading;
 mod rows;

@@ -39,7 +39,9 @@ impl Index for PlainSearch {
         if work.len() < WORK {
             return Err(IndexFault::WorkTooShort);
         }
-        self.successors = Some(Successors::of(book));
+        self.successors
+            .get_or_insert_with(Successors::none)
+            .fill(book);
         Ok(())
     }
 

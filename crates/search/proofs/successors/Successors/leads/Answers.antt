@@ -1,9 +1,13 @@
-use Rattle.std.proofs.Common.{ltb, sym, ◌∙◌}
-use Rattle.std.proofs.lemmas.Bool.{le-ltb}
+use Rattle.std.proofs.Common.{◌≡◌, false, sym}
+use Rattle.search.specs.Following.{reaches}
 use Rattle.search.proofs.Reached.{reaches_past, answer_chain}
 use Rattle.search.proofs.successors.Successors.leads.Goals as goal
 
-pub returns-else-v-self-clause-chains : goal.returns-else-v-self-clause-chains
-returns-else-v-self-clause-chains c =
+pub returns-then-v-self : goal.returns-then-v-self
+returns-then-v-self c =
     let s = c.args.self.now in
-    answer_chain s (ltb c.args.v s.models) c.args.u c.args.v (le-ltb c.args.v s.models c.if-v-self.false ∙ sym (reaches_past s c.args.u c.args.v c.if-v-self.false))
+    let leads : false ≡ reaches s c.args.u c.args.v = sym (reaches_past s c.args.u c.args.v c.if-v-self.true) in
+    record { leads = leads; chains = answer_chain s false c.args.u c.args.v leads }
+
+pub returns : goal.returns
+returns c = let leads = c.spread.ensures c.args.v in record { leads = leads; chains = answer_chain c.args.self.now _ c.args.u c.args.v leads }

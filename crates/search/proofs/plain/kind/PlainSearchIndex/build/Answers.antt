@@ -22,7 +22,7 @@ returns c =
     let few = valid_surplus n (standing b) (valid_book b) in
     let s : surplus n R ≤ 2048 = omega arith in
     record {
-      builds = (rule_none 2048 n R (length c.args.work.now) (omega arith) s, means_book c.of.result n R c.of.ensures.models c.of.ensures.follows (valid_within n (standing b) (valid_book b)));
+      builds = (rule_none 2048 n R (length c.args.work.now) (omega arith) s, means_book c.fill.new.self n R c.fill.ensures.models c.fill.ensures.follows (valid_within n (standing b) (valid_book b)));
       refuses = refl;
-      shows = shows_book c.of.result n R c.of.ensures.models c.of.ensures.follows;
+      shows = shows_book c.fill.new.self n R c.fill.ensures.models c.fill.ensures.follows;
     }

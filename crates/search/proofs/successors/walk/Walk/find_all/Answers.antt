@@ -1,21 +1,16 @@
-use Rattle.std.proofs.Common.{ℕ, List, get_or, take, sym, refl, subst}
-use Rattle.std.proofs.lemmas.List.{take_more}
+use Rattle.std.proofs.Common.{◌≡◌, ℕ, List, [], length, sym, subst, arith}
+use Rattle.std.proofs.lemmas.List.{length-take-le, nil_from_length}
+use Rattle.std.proofs.lemmas.Bool.{eqb-true}
 use Rattle.search.specs.Marks.{Finds}
 use Rattle.search.specs.Walks.{waiting}
-use Rattle.search.proofs.Taken.{lists_at}
-use Rattle.search.proofs.Marks.{finds_more}
+use Rattle.search.proofs.Marks.{finds_none}
 use Rattle.search.proofs.successors.walk.Walk.find_all.Goals as goal
 
-pub find-requires : goal.find-requires
-find-requires c =
-    let ts = c.args.models.now in
-    let i = c.loop-model.model-index in
-    c.requires (get_or ts i 0) (lists_at ts i (get_or ts i 0) c.loop-model-test.true refl)
+pub returns-then-not-is_empty : goal.returns-then-not-is_empty
+returns-then-not-is_empty c n h = c.visit-self.ensures.finds n (omega (arith, length-take-le c.args.self.now.tail c.args.self.now.found (omega arith)))
 
-pub loop-model-preserved : goal.loop-model-preserved
-loop-model-preserved c =
+pub returns-else-not-is_empty : goal.returns-else-not-is_empty
+returns-else-not-is_empty c n h =
     let s = c.args.self.now in
-    let ts = c.args.models.now in
-    let i = c.loop-model.model-index in
-    let more = finds_more (take i ts) (get_or ts i 0) _ _ _ _ _ _ c.loop-model.invariant c.find.ensures in
-    subst (λ (xs : List ℕ). Finds xs s.marks (waiting s) c.find.new.self.marks (waiting c.find.new.self)) (sym (take_more ts i 0 c.loop-model-test.true)) more
+    let none : c.args.models.now ≡ [] = nil_from_length c.args.models.now (eqb-true (length c.args.models.now) 0 (sym c.if-not-is_empty.ensures)) in
+    subst (λ (ts : List ℕ). Finds ts s.marks (waiting n s) s.marks (waiting n s)) (sym none) (finds_none s.marks (waiting n s))

@@ -3,7 +3,12 @@ use Rattle.book.specs.declared.derivation.Derivation.{Derivation}
 use Rattle.book.specs.Counts.{models}
 use Rattle.book.specs.Derivations.{taken_from}
 use Rattle.search.proofs.Filled.{valid_as, firsts_rise, known, starts_rise, starts_fit, targets_known, follows_book}
-use Rattle.search.proofs.successors.Successors.of.Goals as goal
+use Rattle.search.proofs.successors.Successors.fill.Goals as goal
+
+pub copy_targets-requires : goal.copy_targets-requires
+copy_targets-requires c =
+    let valid = valid_as c.args.book.now c.count.result _ _ c.count.ensures c.models-models.ensures c.derivations-derivations.ensures in
+    omega (arith, valid.few)
 
 pub cut-requires : goal.cut-requires
 cut-requires c =
@@ -17,8 +22,8 @@ cut-requires c =
       known = λ k l. (known n ds valid k l).0;
     }
 
-pub invariant_of-result : goal.invariant_of-result
-invariant_of-result c =
+pub invariant_of-self : goal.invariant_of-self
+invariant_of-self c =
     let n = c.models-models.result in
     let ds = c.derivations-derivations.result.now in
     let starts = c.cut.new.starts in
