@@ -5,7 +5,6 @@
 use folder::answers::answers;
 use folder::files::Files;
 use lines::reading::Lines;
-use lines::reading::counting::count_lines;
 use orderfile::laws::days_agree;
 use search::plain::PlainSearch;
 use std::io;
@@ -17,22 +16,38 @@ struct Comparison {
     first_difference: Option<usize>,
 }
 
+impl Comparison {
+    // One more line, at a place from 1.
+    fn with(self, place: usize, agrees: bool) -> Comparison {
+        if agrees {
+            return Comparison {
+                agreeing: self.agreeing.saturating_add(1),
+                ..self
+            };
+        }
+        Comparison {
+            first_difference: self.first_difference.or(Some(place)),
+            ..self
+        }
+    }
+}
+
 fn compare(first: &[u8], second: &[u8]) -> Comparison {
-    let agreeing = Lines::new(first)
-        .zip(Lines::new(second))
-        .filter(|(one, other)| one.bytes() == other.bytes())
-        .fold(0usize, |many, _| many.saturating_add(1));
-    // where one print ends, each further line of the other differs
-    let shorter = count_lines(first).min(count_lines(second));
-    let longer = count_lines(first).max(count_lines(second));
-    let first_difference = Lines::new(first)
-        .zip(Lines::new(second))
-        .find(|(one, other)| one.bytes() != other.bytes())
-        .map(|(one, _)| one.place())
-        .or((shorter < longer).then_some(shorter.saturating_add(1)));
-    Comparison {
-        agreeing,
-        first_difference,
+    let mut others = Lines::new(second);
+    let mut comparison = Comparison {
+        agreeing: 0,
+        first_difference: None,
+    };
+    for one in Lines::new(first) {
+        let agrees = others
+            .next()
+            .is_some_and(|other| one.bytes() == other.bytes());
+        comparison = comparison.with(one.place(), agrees);
+    }
+    // where the first print ends, each further line of the other differs
+    match others.next() {
+        None => comparison,
+        Some(other) => comparison.with(other.place(), false),
     }
 }
 
