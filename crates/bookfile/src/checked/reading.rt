@@ -36,9 +36,13 @@ impl BookFile<'_> {
     pub fn at(&self, place: usize) -> Option<Derivation>
         ensures { result ≡ slice_get (shown self.now) place }
     {
-        let low = place.checked_mul(2)?;
-        let firsts = self.firsts.get(low..)?;
-        let seconds = self.seconds.get(low..)?;
-        Derivations { firsts, seconds }.next()
+        let (firsts, _) = self.firsts.as_chunks::<2>();
+        let (seconds, _) = self.seconds.as_chunks::<2>();
+        let from = firsts.get(place)?;
+        let to = seconds.get(place)?;
+        Some(Derivation {
+            from: u16::from_le_bytes(*from),
+            to: u16::from_le_bytes(*to),
+        })
     }
 }
