@@ -1,10 +1,26 @@
 -- The lowest of the models on hold that pass a test.
-use Rattle.std.proofs.Common.{◌≡◌, ℕ, ◌≤◌, min, Bool, true, false, ◌&&◌, ◌⊎◌, List, [], ◌∷◌, map, Some, None, Option, refl, inl, inr, arith}
-use Rattle.std.specs.List.{fold, filter, reduce}
+use Rattle.std.proofs.Common.{◌≡◌, ℕ, ◌≤◌, min, Bool, true, false, ◌&&◌, ◌⊎◌, List, [], ◌∷◌, map, Some, None, Option, refl, ap, subst, inl, inr, arith}
+use Rattle.std.specs.Fn.{Mut, Called}
+use Rattle.std.specs.Iterator.{ActsAsOnTwo, FoldTurn, ReducesItems}
+use Rattle.std.specs.List.{FoldsTo, fold, filter, reduce}
+use Rattle.std.proofs.lemmas.Iterator.{YieldsList}
+use Rattle.std.proofs.lemmas.Iterator.Consumers.{reduce_from_yields_List}
 use Rattle.std.proofs.lemmas.Bool.{cases_Bool, cases_lt}
 use Rattle.holds.specs.declared.sheet.Hold.{Hold}
 use Rattle.holds.specs.Holds.{held}
 use Rattle.shop.specs.Shops.{LowestOf}
+
+-- what the turns of a closure that computes h come to, from one number on
+module _ {F : Type 0} (g : Mut F (ℕ × (ℕ × Unit {0})) ℕ) (h : ℕ → ℕ → ℕ) (f : F) (k : ActsAsOnTwo g f h) where
+  turns : (xs : List ℕ) (p q : F × ℕ) → p.0 ≡ f → FoldsTo {P = F × ℕ} (FoldTurn g) p xs q → FoldsTo (λ a x b. b ≡ h a x) p.1 xs q.1
+  turns [] p q e c = ap (λ w. w.1) c
+  turns (x ∷ xs) p q e c =
+      let m = k p.1 x c.0.1 c.0.0 (subst (λ w. Called g w (p.1, (x, tt)) c.0.1 c.0.0) e c.1) in
+      (c.0.1, m.1, turns xs c.0 q m.0 c.2)
+
+  pub reduced : {S : Type 0} {steps : S → Option ℕ → S → Type 0} {all : List ℕ} (s : S) (r : Option ℕ) → ReducesItems steps g s f r → YieldsList steps (λ x. x) s all → r ≡ reduce h all
+  reduced s None c e = reduce_from_yields_List h s None c e
+  reduced s (Some y) c e = reduce_from_yields_List h s (Some y) (c.0, c.1, c.3, turns c.1 (f, c.0) (c.2, y) refl c.4) e
 
 module _ (tells : ℕ → Bool) where
   abbrev bars : List Hold → ℕ → Bool

@@ -36,7 +36,7 @@ impl<I: Index> Shop<I> {
             .iter()
             .map(|hold| hold.model)
             .filter(|held| self.index.leads(*held, model))
-            .min()
+            .reduce(|low, held| low.min(held))
     }
 
     /// Answers an order for a model: carve, or stop with the held model that is named.
