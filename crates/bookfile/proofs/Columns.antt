@@ -1,11 +1,16 @@
--- A column of words written into a buffer, one more word at a time.
-use Rattle.std.proofs.Common.{◌≡◌, ℕ, ◌+◌, ◌*◌, ◌<◌, ◌≤◌, List, [], ◌∷◌, ◌++◌, map, length, get_or, take, sym, ap, ◌∙◌, arith}
+-- Words and columns of words written into a buffer.
+use Rattle.std.proofs.Common.{◌≡◌, ℕ, ◌+◌, ◌*◌, ◌/◌, ◌%◌, ◌<◌, ◌≤◌, List, [], ◌∷◌, ◌++◌, map, length, get_or, take, set, sym, ap, ◌∙◌, arith}
 use Rattle.std.proofs.lemmas.List.{map_more, length-take-le}
 use Rattle.book.specs.declared.derivation.Derivation.{Derivation}
 use Rattle.bookfile.specs.Files.{words, column}
 use Rattle.text.specs.Placing.{placed}
 use Rattle.bookfile.proofs.Arrays.{length_column, words_append}
-use Rattle.text.proofs.Placing.{placed_append}
+use Rattle.text.proofs.Placing.{placed_one, placed_more, placed_append}
+
+pub placed_word : (d : List ℕ) (at n : ℕ) → at + 2 ≤ length d → set (set d at (n % 256)) (at + 1) (n / 256) ≡ placed d at (words (n ∷ []))
+placed_word d at n h =
+    ap (λ xs. set xs (at + 1) (n / 256)) (placed_one d at (n % 256) (omega arith))
+    ∙ placed_more d at (n % 256 ∷ []) (n / 256) (omega arith)
 
 -- one more word of a column
 pub column_more : (f : Derivation → ℕ) (d0 d1 d2 : List ℕ) (at end i m : ℕ) (ds : List Derivation) (e : Derivation) → i < length ds → at + 2 * length ds ≤ length d0

@@ -1,5 +1,5 @@
 -- Accepted are exactly the files of valid books, and a file is that of one book alone.
-use Rattle.std.proofs.Common.{◌≡◌, ℕ, suc, ◌+◌, ◌*◌, ◌/◌, ◌%◌, ◌≤◌, Bool, true, false, cond, ◌||◌, eqb, ltb, List, [], ◌∷◌, ◌++◌, map, length, take, drop, Some, None, Ok, Err, Option, Result, sym, refl, ap, ◌∙◌, subst, arith}
+use Rattle.std.proofs.Common.{◌≡◌, ℕ, suc, ◌+◌, ◌*◌, ◌/◌, ◌%◌, ◌<◌, ◌≤◌, Bool, true, false, cond, ◌||◌, eqb, ltb, List, [], ◌∷◌, ◌++◌, map, length, take, drop, Some, None, Ok, Err, Option, Result, sym, refl, ap, ◌∙◌, subst, arith}
 use Rattle.std.specs.Option.{option_map}
 use Rattle.std.proofs.lemmas.List.{take-append-drop, length-append, length-map, length-take-le, length-drop}
 use Rattle.std.proofs.lemmas.Bool.{or_parts, or_from, ltb-false, le-ltb, eqb-true, eq-eqb}
@@ -114,18 +114,53 @@ accepted_valid (a ∷ (b ∷ [])) e = cc
 accepted_valid (a ∷ (b ∷ (c ∷ []))) e = cc
 accepted_valid (a ∷ (b ∷ (c ∷ (d ∷ rest)))) e = (sizes_valid (a + 256 * b) (c + 256 * d) rest e).valid
 
+-- a file cut into its two sizes and its rest
+pub record Cut (bytes : List ℕ) (n d : ℕ) (rest : List ℕ) : Type 0 where
+  pub a : ℕ
+  pub b : ℕ
+  pub c : ℕ
+  pub e : ℕ
+  pub whole : bytes ≡ a ∷ (b ∷ (c ∷ (e ∷ rest)))
+  pub n_is : n ≡ a + 256 * b
+  pub d_is : d ≡ c + 256 * e
+
+cut_refusal : (bytes : List ℕ) (n d : ℕ) (rest : List ℕ) → Cut bytes n d rest → file_refusal bytes ≡ sizes_refusal n d rest
+cut_refusal bytes n d rest k = ap file_refusal k.whole ∙ ap (λ m. sizes_refusal m (k.c + 256 * k.e) rest) (sym k.n_is) ∙ ap (λ m. sizes_refusal n m rest) (sym k.d_is)
+
+-- the words of the sizes in front cut a file, and of bytes they are what it is cut into
+words_cut : (bytes : List ℕ) (n d : ℕ) (rest : List ℕ) → bytes ≡ words (n ∷ (d ∷ [])) ++ rest → Cut bytes n d rest
+words_cut bytes n d rest k = record { a = n % 256; b = n / 256; c = d % 256; e = d / 256; whole = k; n_is = omega arith; d_is = omega arith }
+
+cut_words : (bytes : List ℕ) (n d : ℕ) (rest : List ℕ) → Bytes bytes → Cut bytes n d rest → bytes ≡ words (n ∷ (d ∷ [])) ++ rest
+cut_words bytes n d rest h k =
+    let P : List ℕ → Type 0 = λ bs. Bytes bs in
+    let g : Bytes (k.a ∷ (k.b ∷ (k.c ∷ (k.e ∷ rest)))) = subst P k.whole h in
+    let la : k.a < 256 = g 0 in
+    let lb : k.b < 256 = g 1 in
+    let lc : k.c < 256 = g 2 in
+    let le : k.e < 256 = g 3 in
+    let x : k.a ≡ n % 256 = omega arith in
+    let y : k.b ≡ n / 256 = omega arith in
+    let z : k.c ≡ d % 256 = omega arith in
+    let w : k.e ≡ d / 256 = omega arith in
+    let u = k.whole in
+    cc
+
 -- what the check behind the sizes answers, as an answer for the whole file
 
-pub cut_answers : (bytes : List ℕ) (n d : ℕ) (rest : List ℕ) (r : Result BookFile FileRefusal) → bytes ≡ words (n ∷ (d ∷ [])) ++ rest → Splits n d rest r → Answers (file_refusal bytes) r
-cut_answers bytes n d rest (Ok f) k j = ap file_refusal k ∙ sized n d rest ∙ j.0
-cut_answers bytes n d rest (Err e) k j = ap file_refusal k ∙ sized n d rest ∙ j
+pub cut_answers : (bytes : List ℕ) (n d : ℕ) (rest : List ℕ) (r : Result BookFile FileRefusal) → Cut bytes n d rest → Splits n d rest r → Answers (file_refusal bytes) r
+cut_answers bytes n d rest (Ok f) k j = cut_refusal bytes n d rest k ∙ j.0
+cut_answers bytes n d rest (Err e) k j = cut_refusal bytes n d rest k ∙ j
+
+pub words_answers : (bytes : List ℕ) (n d : ℕ) (rest : List ℕ) (r : Result BookFile FileRefusal) → bytes ≡ words (n ∷ (d ∷ [])) ++ rest → Splits n d rest r → Answers (file_refusal bytes) r
+words_answers bytes n d rest r k j = cut_answers bytes n d rest r (words_cut bytes n d rest k) j
 
 pub refused_accepts : (bytes : List ℕ) (e : FileRefusal) → file_refusal bytes ≡ Some e → (n : ℕ) (ds : List Derivation) → Valid n ds → bytes ≡ file n ds → ⊥
 refused_accepts bytes e q n ds v w = let accepted = file_accepted n ds v in cc
 
-pub cut_accepts : (bytes : List ℕ) (n d : ℕ) (rest : List ℕ) (r : Result BookFile FileRefusal) → Bytes bytes → bytes ≡ words (n ∷ (d ∷ [])) ++ rest → Splits n d rest r → Accepts bytes r
-cut_accepts bytes n d rest (Err e) h k j = refused_accepts bytes e (cut_answers bytes n d rest (Err e) k j)
-cut_accepts bytes n d rest (Ok f) h k j =
+pub words_accepts : (bytes : List ℕ) (n d : ℕ) (rest : List ℕ) (r : Result BookFile FileRefusal) → Bytes bytes → bytes ≡ words (n ∷ (d ∷ [])) ++ rest → Splits n d rest r → Accepts bytes r
+words_accepts bytes n d rest (Err e) h k j = refused_accepts bytes e (words_answers bytes n d rest (Err e) k j)
+words_accepts bytes n d rest (Ok f) h k j =
     let P : List ℕ → Type 0 = λ bs. Bytes bs in
     let g : Bytes (words (n ∷ (d ∷ [])) ++ rest) = subst P k h in
     let ds : List Derivation = derivations (take (2 * d) rest) (drop (2 * d) rest) in
@@ -135,6 +170,9 @@ cut_accepts bytes n d rest (Ok f) h k j =
     let Q : ℕ → Type 0 = λ m. Valid m ds × (bytes ≡ file m ds) in
     let R : List Derivation → Type 0 = λ es. Valid (count_shown f) es × (bytes ≡ file (count_shown f) es) in
     subst R (sym s) (subst Q (sym j.1) (o.valid, w))
+
+pub cut_accepts : (bytes : List ℕ) (n d : ℕ) (rest : List ℕ) (r : Result BookFile FileRefusal) → Bytes bytes → Cut bytes n d rest → Splits n d rest r → Accepts bytes r
+cut_accepts bytes n d rest r h k j = words_accepts bytes n d rest r h (cut_words bytes n d rest h k) j
 
 -- a file is that of one book alone
 pub file_same : (n m : ℕ) (ds es : List Derivation) → file n ds ≡ file m es → (n ≡ m) × (ds ≡ es)

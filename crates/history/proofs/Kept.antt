@@ -56,7 +56,7 @@ unfolding stands held holder sheet_of
 kept_none n = record { within = λ u v t. cc; below = λ m t. cc; once = refl; holders = λ m. refl }
 
 module _ (n : ℕ) (es : List Event) (k : Kept n es) where
-  kept_entered : (d : Derivation) → known n d ≡ true → Kept n (entered d ∷ es)
+  pub kept_entered : (d : Derivation) → known n d ≡ true → Kept n (entered d ∷ es)
   unfolding held holder sheet_of
   kept_entered d low = record {
     within = λ u v t. elim (or_cases (is d u v) (stands es u v) (sym (stands_entered es u v d) ∙ t)) [
@@ -72,7 +72,7 @@ module _ (n : ℕ) (es : List Event) (k : Kept n es) where
     holders = k.holders;
   }
 
-  kept_struck : (d : Derivation) → Kept n (struck d ∷ es)
+  pub kept_struck : (d : Derivation) → Kept n (struck d ∷ es)
   unfolding held holder sheet_of
   kept_struck d = record {
     within = λ u v t. k.within u v (and_parts (not (is d u v)) (stands es u v) (sym (stands_struck es u v d) ∙ t)).1;
@@ -81,11 +81,11 @@ module _ (n : ℕ) (es : List Event) (k : Kept n es) where
     holders = k.holders;
   }
 
-  kept_indexed : Kept n (indexed ∷ es)
+  pub kept_indexed : Kept n (indexed ∷ es)
   unfolding stands held holder sheet_of
   kept_indexed = record { within = k.within; below = k.below; once = k.once; holders = k.holders }
 
-  kept_placed : (x p : ℕ) → x < n → held es x ≡ false → Kept n (placed x p ∷ es)
+  pub kept_placed : (x p : ℕ) → x < n → held es x ≡ false → Kept n (placed x p ∷ es)
   unfolding stands sheet_of
   kept_placed x p low e =
       let hold : Hold = record { model = x; holder = p } in
@@ -97,7 +97,7 @@ module _ (n : ℕ) (es : List Event) (k : Kept n es) where
         holders = λ m. holder_of_placed (sheet_of es) hold m new ∙ ap (λ o. cond (eqb x m) (Some p) o) (k.holders m) ∙ sym (holder_placed es m x p);
       }
 
-  kept_released : (x : ℕ) → Kept n (released x ∷ es)
+  pub kept_released : (x : ℕ) → Kept n (released x ∷ es)
   unfolding stands sheet_of
   kept_released x = record {
     within = k.within;

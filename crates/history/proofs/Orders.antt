@@ -20,7 +20,7 @@ stop_is (Ok Carve) h p = cc
 stop_is (Ok (Stop s)) h p = let e : s.model ≡ h = cc in ap (λ (x : ℕ). Ok (Stop (record { model = x }))) e
 stop_is (Err f) h p = cc
 
-refused_is : (a : Answer) (f : ShopFault) → refused a ≡ Some f → a ≡ Err f
+pub refused_is : (a : Answer) (f : ShopFault) → refused a ≡ Some f → a ≡ Err f
 refused_is (Ok o) f p = cc
 refused_is (Err e) f p = cc
 

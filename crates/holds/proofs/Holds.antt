@@ -1,14 +1,28 @@
--- Lists of holds: the hold on a model found, one more placed, and one released.
-use Rattle.std.proofs.Common.{◌≡◌, ℕ, zero, suc, ◌+◌, ◌<◌, true, false, cond, not, ◌||◌, eqb, List, [], ◌∷◌, ◌++◌, length, get_or, Some, None, Option, sym, refl, ap, ◌∙◌, subst, inl, inr, arith}
+-- Lists of holds: the hold on a model found, one more placed, and one released; and two sheets whose fields are the same are the same.
+use Rattle.std.proofs.Common.{◌≡◌, ℕ, zero, suc, ◌+◌, ◌<◌, ◌≤◌, true, false, cond, not, ◌||◌, eqb, List, [], ◌∷◌, ◌++◌, length, get_or, take, Some, None, Option, sym, refl, ap, ◌∙◌, subst, inl, inr, arith}
+use mathlib.Core.Path.{to_path_p}
+use denote.Struct.Props.{props}
 use Rattle.std.specs.List.{remove, position, position_from}
 use Rattle.std.specs.Option.{is_some}
+use Rattle.std.proofs.lemmas.List.{take_more}
 use Rattle.std.proofs.lemmas.Option.{none-some, same_Some}
 use Rattle.std.proofs.lemmas.Iterator.Adapters.{position_from-zero}
 use Rattle.std.proofs.lemmas.Bool.{and_parts, and_from, or_parts, or_from, or_cases, or_left, or_right, not-true, not_from_false, cases_Bool, cond-true, cond-false, eq-eqb, both_ways, ne_eqb, eqb-false, lt-ltb, le-ltb}
 use Rattle.holds.specs.declared.fault.HoldFault.TheVariants.{SheetFull, NotOnHold, AnothersHold}
 use Rattle.holds.specs.declared.sheet.Hold.{Hold}
+use Rattle.holds.specs.declared.sheet.HoldSheet.{HoldSheet}
 use Rattle.holds.specs.Holds.{held, holder_of, apart, released}
 use Rattle.holds.specs.Sheets.{place_fault, release_fault}
+
+pub same_sheet : (a b : HoldSheet) → a.holds ≡ b.holds → a ≡ b
+same_sheet a b p =
+    let f : IsProp (length b.holds.items ≤ 64) = hlevel props in
+    let g : IsProp (apart b.holds.items ≡ true) = hlevel props in
+    λ i. record {
+      holds = p i;
+      few = to_path_p (λ j. length (p j).items ≤ 64) {a = a.few} {b = b.few} (f _ _) i;
+      apart = to_path_p (λ j. apart (p j).items ≡ true) {a = a.apart} {b = b.apart} (g _ _) i;
+    }
 
 module _ (m : ℕ) where
   held_append : (hs ks : List Hold) → held hs m ≡ false → held ks m ≡ false → held (hs ++ ks) m ≡ false
@@ -16,6 +30,10 @@ module _ (m : ℕ) where
   held_append (h ∷ hs) ks p q =
       let a = or_parts (eqb h.model m) (held hs m) p in
       or_from (eqb h.model m) (held (hs ++ ks) m) a.0 (held_append hs ks a.1 q)
+
+  -- one more that is not on the model
+  pub held_more : (hs : List Hold) (i : ℕ) (d : Hold) → i < length hs → held (take i hs) m ≡ false → eqb (get_or hs i d).model m ≡ false → held (take (i + 1) hs) m ≡ false
+  held_more hs i d h p q = ap (λ (xs : List Hold). held xs m) (take_more hs i d h) ∙ held_append (take i hs) (get_or hs i d ∷ []) p (or_from (eqb (get_or hs i d).model m) false q refl)
 
   pub missing_holder : (hs : List Hold) → held hs m ≡ false → holder_of hs m ≡ None
   missing_holder [] p = refl

@@ -32,6 +32,9 @@ pub first_cut : (bytes : List ℕ) (end : ℕ) → position_or_len is_end bytes 
 first_cut [] end e h = absurd (omega arith)
 first_cut (b ∷ bs) end e h = rw add-one (split_first b bs ∙ ap (λ n. take n (b ∷ bs) ∷ lines_of (drop (suc n) (b ∷ bs))) e)
 
+pub rest_shorter : (bytes behind rest : List ℕ) (k : ℕ) → behind ≡ drop k bytes → rest ≡ drop 1 behind → 0 < length bytes → length rest < length bytes
+rest_shorter bytes behind rest k b r h = omega (arith, ap length b, ap length r, length-drop k bytes, length-drop 1 behind)
+
 pub no_lines : (bytes : List ℕ) → true ≡ eqb (length bytes) 0 → lines_of bytes ≡ []
 unfolding lines_of
 no_lines bytes e = ap lines_of (nil_from_length bytes (eqb-true (length bytes) 0 (sym e)))

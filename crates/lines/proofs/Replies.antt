@@ -43,6 +43,13 @@ few (Shop Stale) = omega arith
 pub numbered_short : (word : List ℕ) (n : ℕ) → length word ≤ 8 → n < 65536 → length (ended (word ++ decimal n)) ≤ 16
 numbered_short word n h s = omega (arith, length_push (word ++ decimal n) 10, length-append word (decimal n), length_few n s)
 
+-- the text of a reply has at most 16 bytes
+pub reply_short : (r : Reply) → Nameable r → length (reply_text r) ≤ 16
+reply_short (Ok Done) h = omega arith
+reply_short (Ok Carve) h = omega arith
+reply_short (Ok (Stop s)) h = numbered_short (codes "stop ") s.model (omega arith) (h s.model refl)
+reply_short (Err f) h = numbered_short (codes "no ") (number f) (omega arith) (omega (arith, few f))
+
 clear_digits : (ds : List ℕ) → all_ascii_digits ds ≡ true → Clear ds
 clear_digits [] h = tt
 clear_digits (d ∷ ds) h =

@@ -8,7 +8,7 @@ use Rattle.lines.specs.Lines.{lines_of}
 use Rattle.lines.specs.Reading.{line_bytes, lines_left, Steps, ReadOn, Gives}
 use Rattle.lines.proofs.Lines.{Ahead, ahead, none_ahead}
 
-read_on : (before : Lines) (r : Option Line) (after : Lines) → Steps before r after → ReadOn before r after
+pub read_on : (before : Lines) (r : Option Line) (after : Lines) → Steps before r after → ReadOn before r after
 read_on before None after s = λ file k h. none_ahead (lines_of file) k (sym s.0 ∙ h.left) h.within
 read_on before (Some l) after s = λ file k h.
     let a : Ahead (lines_of file) k (line_bytes l) (lines_left after) = ahead (lines_of file) k (line_bytes l) (lines_left after) (sym s.0 ∙ h.left) in

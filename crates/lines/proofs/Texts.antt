@@ -101,3 +101,9 @@ next_cases view bytes more None e h = λ v rest s.
     h v rest (record { small = s.small; whole = tail_same 32 32 more (decimal v ++ rest) (sym e ∙ s.whole); ends = s.ends })
 next_cases view bytes more (Some p) e h =
     record { small = h.small; whole = e ∙ ap (λ xs. 32 ∷ xs) h.whole; ends = h.ends }
+
+pub nil_from_empty : (xs : List ℕ) → true ≡ eqb (length xs) 0 → xs ≡ []
+nil_from_empty xs e = nil_from_length xs (eqb-true (length xs) 0 (sym e))
+
+pub some_from_full : (xs : List ℕ) → false ≡ eqb (length xs) 0 → xs ≡ [] → ⊥
+some_from_full xs e z = eqb-false (length xs) 0 (sym e) (ap length z)

@@ -1,3 +1,4 @@
+mod Calling
 mod Replying
 mod Entries
 mod Lawful

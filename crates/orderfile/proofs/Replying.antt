@@ -1,10 +1,10 @@
 -- Lines answered in turn: what the shop replies is what its history says, and the replies stand one behind another.
-use Rattle.std.proofs.Common.{◌≡◌, ℕ, ◌+◌, ◌-◌, ◌*◌, ◌≤◌, List, [], ◌∷◌, ◌++◌, length, take, drop, Some, None, Option, sym, ap, ◌∙◌, subst, append_assoc, arith}
+use Rattle.std.proofs.Common.{◌≡◌, ℕ, ◌+◌, ◌-◌, ◌*◌, ◌≤◌, List, [], ◌∷◌, ◌++◌, length, take, drop, Some, None, Option, sym, refl, ap, ◌∙◌, subst, append_assoc, arith}
 use borrow.Rule.Slice.PartMut.{post_of}
 use Rattle.std.specs.List.{flat_map}
 use Rattle.std.proofs.lemmas.List.{append-nil, length-append, length-drop, drop_all, drop-drop}
 use Rattle.text.specs.Placing.{placed}
-use Rattle.text.proofs.Placing.{placed_append, length_placed}
+use Rattle.text.proofs.Placing.{placed_none, placed_append, length_placed}
 use Rattle.index.specs.Meanings.{Meaning}
 use Rattle.history.specs.Answers.{Answer}
 use Rattle.history.specs.Events.{History, happened}
@@ -23,7 +23,7 @@ use Rattle.shop.specs.declared.running.Shop.{Shop}
 use Rattle.shop.specs.Shops.{Follows}
 use Rattle.orderfile.specs.declared.answering.AnsweredLine.{AnsweredLine}
 use Rattle.orderfile.specs.Answering.{Responds, Written}
-use Rattle.orderfile.specs.Days.{reply_to, behind, replies}
+use Rattle.orderfile.specs.Days.{reply_to, behind, replies, AnswersLines}
 
 module _ {X : Type 0} (meaning : X → Meaning) (refuses : X → Refuses) where
   -- a reply is that which the history says, and the shop follows the history behind it
@@ -51,6 +51,15 @@ module _ {X : Type 0} (meaning : X → Meaning) (refuses : X → Refuses) where
     pub long : end ≡ length text
     pub bytes : is ≡ placed out 0 text
     pub goes : (n : ℕ) (owed : Refuses) (h : History) → Follows meaning refuses n owed h s → GoesOn n owed h work lines left text t
+
+  pub replying_none : (s : Shop X) (work : ℕ) (lines left : List (List ℕ)) (out : List ℕ) → left ≡ lines → 16 * length lines ≤ length out → Replying s work lines out s left out 0
+  replying_none s work lines left out e h = record {
+    room = let l : length left ≡ length lines = ap length e in omega arith;
+    text = [];
+    long = refl;
+    bytes = placed_none out 0;
+    goes = λ n owed k f. record { history = k; follows = f; front = ap (λ (ls : List (List ℕ)). flat_map reply_text (replies n owed work k ls)) (sym e) };
+  }
 
 -- a reply written behind the others
 written_behind : (is sub rest : List ℕ) (end : ℕ) (text : List ℕ) → end ≤ length is → sub ≡ placed (drop end is) 0 text → rest ≡ [] → take end is ++ (sub ++ rest) ≡ placed is end text
@@ -94,4 +103,16 @@ module _ {X : Type 0} {meaning : X → Meaning} {refuses : X → Refuses} {s : S
                   ∙ ap (λ (x : Reply). a.text ++ (reply_text x ++ flat_map reply_text (replies n owed work (behind n owed work g.history o) more))) (sym p.0)
                   ∙ sym (append_assoc a.text (reply_text w.reply) (flat_map reply_text (replies n owed work (behind n owed work g.history o) more)));
             };
+      }
+
+  pub replying_all : left ≡ [] → AnswersLines meaning refuses s work lines out end is
+  replying_all e =
+      let h = a.room in
+      record {
+        within = omega arith;
+        by_history = λ n owed k f.
+            let g = a.goes n owed k f in
+            let whole : flat_map reply_text (replies n owed work k lines) ≡ a.text =
+            g.front ∙ ap (λ (ls : List (List ℕ)). a.text ++ flat_map reply_text (replies n owed work g.history ls)) e ∙ append-nil a.text in
+            (a.long ∙ ap length (sym whole), a.bytes ∙ ap (placed out 0) (sym whole));
       }

@@ -1,5 +1,5 @@
 -- What finding, adding and removing by the halving search come to where the list rises.
-use Rattle.std.proofs.Common.{◌≡◌, ℕ, suc, pred, ◌<◌, ◌≤◌, Bool, true, false, cond, List, ◌++◌, length, take, drop, is_ok, Some, None, Ok, Err, Option, Result, Ordering, sym, refl, ap, ◌∙◌, subst, arith, length-append, length-drop}
+use Rattle.std.proofs.Common.{◌≡◌, ℕ, suc, pred, ◌-◌, ◌<◌, ◌≤◌, Bool, true, false, cond, List, ◌++◌, length, take, drop, is_ok, Some, None, Ok, Err, Option, Result, Ordering, sym, refl, ap, ◌∙◌, subst, arith, length-append, length-drop}
 use Rattle.std.specs.List as list
 use Rattle.std.specs.Result.{result_ok}
 use Rattle.std.proofs.lemmas.List.{take_at, length-take-le}
@@ -30,8 +30,12 @@ nowhere b p e = grind (arith, common_steps)
 is_there : (b : Bool) (p : ℕ) → is_ok {E = ℕ} (cond b (Ok p) (Err p)) ≡ b
 is_there b p = grind (arith, common_steps)
 
+-- the search of a part from the start, as a call of it reads
+pub of_front : {K : Type 0} (cmp : K → K → Ordering) (mem : List K) (n : ℕ) (k : K) (v : Result ℕ ℕ) → v ≡ halving cmp (take (n - 0) mem) k → halving cmp (take n mem) k ≡ v
+of_front cmp mem n k v e = let z : n - 0 ≡ n = omega arith in sym (rw z at e)
+
 module _ {K : Type 0} (cmp : K → K → Ordering) (order : Order cmp) where
-  halving_seeks : (xs : List K) (k : K) → rising cmp xs ≡ true → halving cmp xs k ≡ sought cmp xs k
+  pub halving_seeks : (xs : List K) (k : K) → rising cmp xs ≡ true → halving cmp xs k ≡ sought cmp xs k
   halving_seeks xs k h = seeks cmp order xs k (rises_from_rising cmp order xs h)
 
   -- the search ends at a key exactly if it stands

@@ -44,6 +44,13 @@ is_below : (b : Bool) → cond b None (Some NoSuchModel) ≡ None → b ≡ true
 is_below true e = refl
 is_below false e = cc
 
+-- a shop of which one part is as it was, the others being the same
+pub book_only : {X : Type 0} (s : Shop X) (b : Book) → b ≡ book_in s → ◌≡◌ {A = Shop X} (record { book = b; sheet = sheet_in s; index = index_in s }) s
+book_only s b e = ap (λ (x : Book). record { book = x; sheet = sheet_in s; index = index_in s }) e
+
+pub sheet_only : {X : Type 0} (s : Shop X) (b : HoldSheet) → b ≡ sheet_in s → ◌≡◌ {A = Shop X} (record { book = book_in s; sheet = b; index = index_in s }) s
+sheet_only s b e = ap (λ (x : HoldSheet). record { book = book_in s; sheet = x; index = index_in s }) e
+
 -- what the table says of a call, after any history that the shop follows
 pub record Owes {X : Type 0} (meaning : X → Meaning) (refuses : X → Refuses) (s : Shop X) (call : Call) (o : Option ShopFault) : Type 0 where
   pub by : (n : ℕ) (owed : Refuses) (h : History) → Follows meaning refuses n owed h s → refusal n owed (happened h) call ≡ o

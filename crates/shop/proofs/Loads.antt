@@ -1,7 +1,9 @@
 -- Derivations entered in turn into a shop, one more each time.
-use Rattle.std.proofs.Common.{◌≡◌, ℕ, List, [], ◌∷◌, ◌++◌, map, reverse, Some, None, Ok, Err, Option, sym, refl, ap, ◌∙◌}
+use Rattle.std.proofs.Common.{◌≡◌, ℕ, zero, suc, ◌+◌, List, [], ◌∷◌, ◌++◌, map, reverse, take, Some, None, Ok, Err, Option, sym, refl, ap, ◌∙◌}
+use Rattle.std.specs.List.{slice_get}
 use Rattle.std.specs.Option.{option_map}
-use Rattle.std.proofs.lemmas.List.{reverse-append, map-append}
+use Rattle.std.proofs.lemmas.List.{reverse-append, map-append, take_more}
+use Rattle.std.proofs.lemmas.Option.{slice_get_within, get_or_from_slice_get}
 use Rattle.rising.specs.Lists.{insert}
 use Rattle.book.specs.declared.derivation.Derivation.{Derivation}
 use Rattle.book.specs.declared.refusal.Refusal.{Refusal}
@@ -21,6 +23,16 @@ use Rattle.shop.specs.declared.running.Shop.{Shop}
 use Rattle.shop.specs.Shops.{book_in, Follows, Keeps}
 use Rattle.shop.specs.Loads.{entries}
 use Rattle.shop.proofs.Calls.{entry_owes}
+
+-- the front of a list up to a place with an element, and up to one behind the last
+pub take_nth : {X : Type 0} (xs : List X) (i : ℕ) (x : X) → Some x ≡ slice_get xs i → take (i + 1) xs ≡ take i xs ++ x ∷ []
+take_nth xs i x e = take_more xs i x (slice_get_within xs i x (sym e)) ∙ ap (λ y. take i xs ++ y ∷ []) (get_or_from_slice_get xs i x x (sym e))
+
+pub take_ends : {X : Type 0} (xs : List X) (i : ℕ) → None ≡ slice_get xs i → take i xs ≡ xs
+take_ends [] zero e = refl
+take_ends [] (suc i) e = refl
+take_ends (y ∷ xs) zero e = cc
+take_ends (y ∷ xs) (suc i) e = ap (λ zs. y ∷ zs) (take_ends xs i e)
 
 -- one more entry
 pub entries_more : (ds : List Derivation) (d : Derivation) → entries (ds ++ d ∷ []) ≡ (Enter d, Ok Done) ∷ entries ds

@@ -1,7 +1,34 @@
--- Texts placed into a buffer: one behind another, and what stands there after.
-use Rattle.std.proofs.Common.{◌≡◌, ℕ, ◌+◌, ◌-◌, ◌≤◌, List, [], ◌++◌, length, take, drop, sym, refl, ap, ◌∙◌, append_assoc, arith}
-use Rattle.std.proofs.lemmas.List.{length-take-le, drop_at, length-append, length-drop, take_at, drop-drop}
+-- Texts placed into a buffer: one behind another, copied in, and what stands there after.
+use Rattle.std.proofs.Common.{◌≡◌, ℕ, ◌+◌, ◌-◌, ◌<◌, ◌≤◌, List, [], ◌∷◌, ◌++◌, length, take, drop, set, sym, refl, ap, ◌∙◌, append_assoc, add-one, arith}
+use Rattle.std.proofs.lemmas.List.{length-take-le, set-append_right, drop_more, length_push, take-append-drop, drop_at, set_split, length-append, length-drop, take_at, take_all, take_rest, drop_all, drop-drop, append-nil}
+use Rattle.std.proofs.lemmas.Slice.{put_mid-paste}
+use borrow.Rule.Slice.PartMut.{put_mid}
 use Rattle.text.specs.Placing.{placed}
+
+-- one more byte behind a text that was placed
+pub placed_more : (d : List ℕ) (at : ℕ) (s : List ℕ) (c : ℕ) → at + length s < length d
+    → set (placed d at s) (at + length s) c ≡ placed d at (s ++ (c ∷ []))
+placed_more d at s c h =
+    let l : length (take at d) ≡ at = length-take-le at d (omega arith) in
+    let one = set-append_right (take at d) (s ++ drop (at + length s) d) at (at + length s) c l (omega arith) in
+    let z : at + length s - at ≡ length s = omega arith in
+    let two = set-append_right s (drop (at + length s) d) (length s) (length s) c refl (omega arith) in
+    let zz : length s - length s ≡ 0 = omega arith in
+    let three : set (drop (at + length s) d) 0 c ≡ c ∷ drop (at + length s + 1) d
+    = ap (λ xs. set xs 0 c) (drop_more d (at + length s) 0 h) in
+    let len : at + length (s ++ (c ∷ [])) ≡ at + length s + 1 = omega (arith, length_push s c) in
+    let four : s ++ (c ∷ drop (at + length s + 1) d) ≡ (s ++ (c ∷ [])) ++ drop (at + length (s ++ (c ∷ []))) d
+    = ap (λ n. s ++ (c ∷ drop n d)) (sym len) ∙ sym (append_assoc s (c ∷ []) (drop (at + length (s ++ (c ∷ []))) d)) in
+    one ∙ ap (λ n. take at d ++ set (s ++ drop (at + length s) d) n c) z
+    ∙ ap (λ xs. take at d ++ xs) (two ∙ ap (λ n. s ++ set (drop (at + length s) d) n c) zz ∙ ap (λ xs. s ++ xs) three ∙ four)
+
+pub placed_none : (d : List ℕ) (at : ℕ) → d ≡ placed d at []
+placed_none d at =
+    let z : at ≡ at + 0 = omega arith in
+    sym (take-append-drop at d) ∙ ap (λ k. take at d ++ drop k d) z
+
+pub placed_one : (d : List ℕ) (at c : ℕ) → at < length d → set d at c ≡ placed d at (c ∷ [])
+placed_one d at c h = rw add-one (set_split d at c h)
 
 -- what stands from the text on
 pub drop_placed : (d : List ℕ) (at : ℕ) (s : List ℕ) → at ≤ length d → drop at (placed d at s) ≡ s ++ drop (at + length s) d
@@ -46,3 +73,27 @@ placed_three d0 d1 d2 d3 u v w at end r e1 l1 e2 l2 e3 l3 h =
     let three : d3 ≡ placed d0 0 ((u ++ v) ++ w)
     = e3 ∙ ap (λ x. placed x end w) two ∙ ap (λ k. placed (placed d0 0 (u ++ v)) k w) l ∙ placed_append d0 0 (u ++ v) w (omega arith) in
     (omega (arith, length-append u (v ++ w), length-append v w), three ∙ ap (placed d0 0) (append_assoc u v w))
+
+-- a text copied into its place
+pub placed_copy : (d : List ℕ) (at k : ℕ) (s ys : List ℕ) → ys ≡ s → k ≡ length s → put_mid at k d ys ≡ placed d at s
+placed_copy d at k s ys e l =
+    put_mid-paste at k d ys s (length s) e (sym l) refl
+    ∙ append_assoc (take at d) (take (length s) s) (drop (at + length s) d)
+    ∙ ap (λ xs. take at d ++ (xs ++ drop (at + length s) d)) (take_all (length s) s (omega arith))
+
+-- a text placed at the front of the part from `at` on
+pub placed_part : (d : List ℕ) (at : ℕ) (s ys : List ℕ) → at + length s ≤ length d → ys ≡ placed (take (length d - at) (drop at d)) 0 s
+    → put_mid at (length d - at) d ys ≡ placed d at s
+placed_part d at s ys h e =
+    let front : ys ≡ placed (drop at d) 0 s = e ∙ ap (λ xs. placed xs 0 s) (take_rest d at) in
+    let l : length (drop at d) ≡ length d - at = length-drop at d in
+    let len : length ys ≡ length d - at = ap length front ∙ length_placed (drop at d) 0 s (omega arith) ∙ l in
+    let none : drop (at + length ys) d ≡ [] = drop_all (at + length ys) d (omega arith) in
+    let n : at + (0 + length s) ≡ at + length s = omega arith in
+    let behind : ys ≡ s ++ drop (at + length s) d = front ∙ ap (λ xs. s ++ xs) (drop-drop (0 + length s) at d ∙ ap (λ k. drop k d) n) in
+    placed_copy d at (length d - at) ys ys refl (sym len) ∙ ap (λ xs. take at d ++ (ys ++ xs)) none
+    ∙ ap (λ xs. take at d ++ xs) (append-nil ys ∙ behind)
+
+-- and that part as it was
+pub part_untouched : (d : List ℕ) (at : ℕ) (ys : List ℕ) → at ≤ length d → ys ≡ take (length d - at) (drop at d) → put_mid at (length d - at) d ys ≡ d
+part_untouched d at ys h e = placed_part d at [] ys (omega arith) (e ∙ placed_none (take (length d - at) (drop at d)) 0) ∙ sym (placed_none d at)

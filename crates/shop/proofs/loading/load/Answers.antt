@@ -5,7 +5,7 @@ use Rattle.book.specs.Counts.{models}
 use Rattle.book.specs.Books.{standing, in_turn}
 use Rattle.bookfile.specs.Files.{file}
 use Rattle.bookfile.specs.Checked.{count_shown, shown, left}
-use Rattle.bookfile.proofs.Entering.{turn_goes, turn_stops, all_stand, none_refused}
+use Rattle.bookfile.proofs.Entering.{first_goes, first_stops, all_stand, none_refused}
 use Rattle.history.specs.Events.{History}
 use Rattle.history.specs.Table.{Refuses}
 use Rattle.history.specs.Lists.{book_of}
@@ -33,7 +33,7 @@ returns-in_err-enter g c =
     let l = c.loop-derivation in
     let d = c.in-Some.derivation in
     let stop = entry_stops d l.invariant.1 c.in_err-enter.field-0.0 c.in_err-enter.ensures.law in
-    let stops = sym l.invariant.3 ∙ ap (in_turn n (standing (book_in l.shop))) c.in-Some.ensures.steps ∙ turn_stops n (standing (book_in l.shop)) d (left c.next.new.self) stop.0 stop.1 in
+    let stops = sym l.invariant.3 ∙ ap (in_turn n (standing (book_in l.shop))) c.in-Some.ensures.steps ∙ first_stops n (standing (book_in l.shop)) d (left c.next.new.self) stop.0 stop.1 in
     let none = none_refused n (shown c.args.file.now) stop.0 stops in
     rw p.1 (record { follows = none; unbuilt = tt; bytes = none })
 
@@ -52,7 +52,7 @@ loop-derivation-preserved g c =
       append_assoc l.yielded (d ∷ []) more ∙ ap (λ xs. l.yielded ++ xs) (sym step) ∙ l.invariant.0,
       subst (λ (x : History). Follows g.I.Index.meaning g.I.Index.refuses n owed x t) (sym (entries_more l.yielded d)) (keeps.follows n owed _ l.invariant.1),
       c.in_ok-enter.ensures.index ∙ l.invariant.2,
-      ap (λ (ds : List Derivation). in_turn n ds more) goes.1 ∙ sym (turn_goes n (standing (book_in s)) d more goes.0)
+      ap (λ (ds : List Derivation). in_turn n ds more) goes.1 ∙ sym (first_goes n (standing (book_in s)) d more goes.0)
           ∙ ap (in_turn n (standing (book_in s))) (sym step) ∙ l.invariant.3,
     )
 
