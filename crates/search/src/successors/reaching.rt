@@ -9,7 +9,7 @@ use crate::successors::walk::Walk;
 
 impl Successors {
     // Marks the models that `from` leads to, on a walk that has found nothing; none if `from` is no model.
-    #[inline(always)] // as a call of its own, or answering the walk, it takes up to twice as long
+    #[inline(always)] // so that the walk lies where the question is asked; answered, it took up to twice as long
     pub(super) fn spread(&self, from: u16, walk: &mut Walk)
         requires marks { walk.old.marks ≡ replicate 1024 false }
         requires found { found_in walk.old ≡ [] }
