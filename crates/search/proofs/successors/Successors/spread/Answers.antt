@@ -4,7 +4,7 @@ use Rattle.search.specs.Following.{taken, lists, follows}
 use Rattle.search.specs.Marks.{Finds, Found}
 use Rattle.search.specs.Walks.{waiting}
 use Rattle.search.proofs.Taken.{follows_within, follows_lists}
-use Rattle.search.proofs.Marks.{none_at, found_first, found_next, found_closed}
+use Rattle.search.proofs.Marks.{none_at, finds_longer, found_first, found_next, found_closed}
 use Rattle.search.proofs.Reached.{closed_reaches, reaches_outside}
 use Rattle.search.proofs.successors.Successors.spread.Goals as goal
 
@@ -21,7 +21,7 @@ loop-model-init c =
     let first : Finds (u ∷ []) (replicate 1024 false) [] walk.marks row =
     subst (λ (m : List Bool). Finds (u ∷ []) m [] walk.marks row) c.requires.marks
     (subst (λ (q : List ℕ). Finds (u ∷ []) c.args.walk.now.marks q walk.marks row) c.requires.found (c.find.ensures 0 (omega arith))) in
-    found_first (follows c.args.self.now) u 1024 walk.marks row first
+    (omega arith, found_first (follows c.args.self.now) u 1024 walk.marks row first)
 
 pub find_all-requires : goal.find_all-requires
 find_all-requires c =
@@ -45,9 +45,11 @@ loop-model-preserved c =
     let n = c.loop-model.visited in
     let walk = c.loop-model.walk in
     let later = c.find_all.new.self in
-    let found : Found R u (w ∷ waiting (n + 1) walk) walk.marks = subst (λ (q : List ℕ). Found R u q walk.marks) c.in-Some.ensures.1 c.loop-model.invariant in
-    found_next R u w (taken s w) walk.marks later.marks (waiting (n + 1) walk) (waiting (n + 1) later) (follows_lists s w) found
-    (subst (λ (ts : List ℕ). Finds ts walk.marks (waiting (n + 1) walk) later.marks (waiting (n + 1) later)) c.targets_of.ensures (c.find_all.ensures (n + 1) (omega (arith, c.in-Some.ensures.0))))
+    let found : Found R u (w ∷ waiting (n + 1) walk) walk.marks = subst (λ (q : List ℕ). Found R u q walk.marks) c.in-Some.ensures.1 c.loop-model.invariant.1 in
+    let finds : Finds (taken s w) walk.marks (waiting (n + 1) walk) later.marks (waiting (n + 1) later) =
+    subst (λ (ts : List ℕ). Finds ts walk.marks (waiting (n + 1) walk) later.marks (waiting (n + 1) later)) c.targets_of.ensures (c.find_all.ensures (n + 1) (omega (arith, c.in-Some.ensures.0))) in
+    let longer = finds_longer _ _ _ _ _ (c.find_all.ensures 0 (omega arith)) in
+    (omega (arith, c.in-Some.ensures.0, longer), found_next R u w (taken s w) walk.marks later.marks (waiting (n + 1) walk) (waiting (n + 1) later) (follows_lists s w) found finds)
 
 pub returns : goal.returns
 returns c =
@@ -56,5 +58,5 @@ returns c =
     let u = c.args.from in
     let m = c.loop-model.walk.marks in
     let empty : waiting c.loop-model.visited c.loop-model.walk ≡ [] = rw c.in_default.is at c.next.ensures in
-    let found : Found R u [] m = subst (λ (q : List ℕ). Found R u q m) empty c.loop-model.invariant in
+    let found : Found R u [] m = subst (λ (q : List ℕ). Found R u q m) empty c.loop-model.invariant.1 in
     closed_reaches s u m c.if-from-self.false (found_closed R u m found)
