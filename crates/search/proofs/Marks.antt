@@ -116,20 +116,6 @@ finds_more ts x m n o q r s a b = record {
   ];
 }
 
--- marks stay, so no more places are without one, and the row of the models that were found gets no shorter
-unmarked_fewer : (m n : List Bool) → length n ≡ length m → ((v : ℕ) → Marked m v → Marked n v) → unmarked n ≤ unmarked m
-unfolding unmarked
-unmarked_fewer [] [] l k = omega arith
-unmarked_fewer [] (y ∷ n) l k = absurd (omega arith)
-unmarked_fewer (x ∷ m) [] l k = absurd (omega arith)
-unmarked_fewer (false ∷ m) (false ∷ n) l k = let r = unmarked_fewer m n (omega arith) (λ v p. k (suc v) p) in omega arith
-unmarked_fewer (false ∷ m) (true ∷ n) l k = let r = unmarked_fewer m n (omega arith) (λ v p. k (suc v) p) in omega arith
-unmarked_fewer (true ∷ m) (false ∷ n) l k = absurd (false≢true (k 0 refl))
-unmarked_fewer (true ∷ m) (true ∷ n) l k = let r = unmarked_fewer m n (omega arith) (λ v p. k (suc v) p) in omega arith
-
-pub finds_longer : (ts : List ℕ) (m n : List Bool) (q r : List ℕ) → Finds ts m q n r → length q ≤ length r
-finds_longer ts m n q r f = let fewer = unmarked_fewer m n f.size f.marks in let room = f.room in omega arith
-
 -- a search that has found its first model, that visits one more, and that is done
 pub found_first : (R : ℕ → ℕ → Bool) (u n : ℕ) (m : List Bool) (q : List ℕ) → Finds (u ∷ []) (replicate n false) [] m q → Found R u q m
 found_first R u n m q f = record {

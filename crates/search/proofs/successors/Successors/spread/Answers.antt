@@ -1,10 +1,10 @@
 use Rattle.std.proofs.Common.{◌≡◌, ℕ, ◌+◌, Bool, false, List, [], ◌∷◌, get_or, replicate, sym, ap, ◌∙◌, subst, arith}
-use Rattle.std.proofs.lemmas.List.{length-take}
+use Rattle.std.proofs.lemmas.List.{length-take, length-drop}
 use Rattle.search.specs.Following.{taken, lists, follows}
 use Rattle.search.specs.Marks.{Finds, Found}
-use Rattle.search.specs.Walks.{waiting}
+use Rattle.search.specs.Walks.{found_in, waiting}
 use Rattle.search.proofs.Taken.{follows_within, follows_lists}
-use Rattle.search.proofs.Marks.{none_at, finds_longer, found_first, found_next, found_closed}
+use Rattle.search.proofs.Marks.{none_at, found_first, found_next, found_closed}
 use Rattle.search.proofs.Reached.{closed_reaches, reaches_outside}
 use Rattle.search.proofs.successors.Successors.spread.Goals as goal
 
@@ -36,6 +36,7 @@ overflow_add-visited c =
     let room = walk.room in
     omega (arith, c.in-Some.ensures.0, length-take walk.tail walk.found)
 
+-- find_all adds as many to all that were found as to those that wait behind n + 1, so at least n + 1 are found afterwards
 pub loop-model-preserved : goal.loop-model-preserved
 loop-model-preserved c =
     let s = c.args.self.now in
@@ -46,10 +47,11 @@ loop-model-preserved c =
     let walk = c.loop-model.walk in
     let later = c.find_all.new.self in
     let found : Found R u (w ∷ waiting (n + 1) walk) walk.marks = subst (λ (q : List ℕ). Found R u q walk.marks) c.in-Some.ensures.1 c.loop-model.invariant.1 in
-    let finds : Finds (taken s w) walk.marks (waiting (n + 1) walk) later.marks (waiting (n + 1) later) =
-    subst (λ (ts : List ℕ). Finds ts walk.marks (waiting (n + 1) walk) later.marks (waiting (n + 1) later)) c.targets_of.ensures (c.find_all.ensures (n + 1) (omega (arith, c.in-Some.ensures.0))) in
-    let longer = finds_longer _ _ _ _ _ (c.find_all.ensures 0 (omega arith)) in
-    (omega (arith, c.in-Some.ensures.0, longer), found_next R u w (taken s w) walk.marks later.marks (waiting (n + 1) walk) (waiting (n + 1) later) (follows_lists s w) found finds)
+    let all = c.find_all.ensures 0 (omega arith) in
+    let finds = c.find_all.ensures (n + 1) (omega (arith, c.in-Some.ensures.0)) in
+    let row : Finds (taken s w) walk.marks (waiting (n + 1) walk) later.marks (waiting (n + 1) later) =
+    subst (λ (ts : List ℕ). Finds ts walk.marks (waiting (n + 1) walk) later.marks (waiting (n + 1) later)) c.targets_of.ensures finds in
+    (omega (arith, c.in-Some.ensures.0, all.room, finds.room, length-drop (n + 1) (found_in walk), length-drop (n + 1) (found_in later)), found_next R u w (taken s w) walk.marks later.marks (waiting (n + 1) walk) (waiting (n + 1) later) (follows_lists s w) found row)
 
 pub returns : goal.returns
 returns c =
